@@ -1,0 +1,1 @@
+// No code: every claim of 01 restated in full, each answered by its theorem.

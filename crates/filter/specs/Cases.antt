@@ -1,0 +1,39 @@
+-- Small cases that fix the edge rule and "wholly inside".
+--     cases-met     one theorem, computed: images after a pass, and a pixel that no translate opens
+-- Assumes nothing.
+use mathlib.Core.Bool.{Bool, true, not}
+use mathlib.Core.List.{List, [], _∷_, _++_}
+use mathlib.Core.Path.{_≡_, refl}
+use Prim.Native.Nat.{ℕ, _-_}
+use lib.ListN.{replicate}
+use Rattle.filter.specs.Pass.{inside, solid, opened, held, passAt, pass}
+use Rattle.seq.specs.Bits.{bit, bitsOf}
+use Rattle.seq.specs.Lists.{all, sameList}
+use Rattle.seq.specs.Tab.{upTo}
+use Rattle.table.specs.declared.Table.{Table}
+use Rattle.table.specs.Mask.{positions}
+use Rattle.table.specs.Record.{masks, persistents}
+
+-- the eight neighbours, 2 × 2
+abbrev ring : Table
+ring = record { count = 1; elements = 469440 ∷ replicate 63 0; persistent = 405504 }
+
+-- n pixels, black only at pixel i
+abbrev dot : ℕ → ℕ → List ℕ
+dot n i = replicate i 0 ++ 1 ∷ replicate (n - i - 1) 0
+
+-- the pass on a 5 × 5 image with one black pixel leaves it, clears it
+abbrev stays : ℕ → Bool
+stays i = sameList (pass ring 5 5 (dot 25 i)) (dot 25 i)
+
+abbrev goes : ℕ → Bool
+goes i = sameList (pass ring 5 5 (dot 25 i)) (replicate 25 0)
+
+-- a dot at a corner stands for its own neighbours outside, and stays; one inside goes. In a 4 × 4 image with the dot at (1, 1), no
+-- translate that is wholly inside opens (0, 0)
+abbrev cases : List Bool
+cases = stays 0 ∷ stays 4 ∷ stays 20 ∷ stays 24 ∷ goes 12 ∷ not (opened ring 4 4 (dot 16 5) 0 0 0) ∷ []
+
+pub cases-met : all (λ b. b) cases ≡ true
+unfolding inside solid opened held passAt pass positions masks persistents bit bitsOf upTo
+cases-met = refl

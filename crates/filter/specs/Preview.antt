@@ -1,0 +1,67 @@
+-- The preview (01, One pass): the 3 × 3 median.
+--     square            the nine positions of the 3 × 3 square around the centre
+--     pattern win       the nine pixels of a window as a number below 512
+--     fiveOrMore p      1 exactly when five or more of the nine bits are 1
+--     preview w h img   the image of answers
+--     medianElements    the 56 five-point subsets of the eight neighbours
+--     Preview           it is the plain rule of those elements
+--     previewVerdict w h px n, previewArea w h px area    the call: it refuses as the image writer does
+-- Assumes nothing.
+use mathlib.Core.Bool.{Bool}
+use mathlib.Core.List.{List, [], _∷_, _++_, map}
+use mathlib.Core.Path.{_≡_}
+use Prim.Native.Nat.{ℕ, _+_, _*_, _/_, _%_, _^_}
+use lib.Dec.{leb, eqb}
+use lib.ListN.{length, getD, replicate}
+use Rattle.filter.specs.Image.{IsImage}
+use Rattle.filter.specs.Plain.{plain}
+use Rattle.filter.specs.Window.{window, windowAt}
+use Rattle.image.specs.File.{pixelVerdict, areaRule}
+use Rattle.seq.specs.Bits.{bit}
+use Rattle.seq.specs.Lists.{one, keep, count}
+use Rattle.seq.specs.Tab.{tab, upTo}
+use Rattle.table.specs.declared.Table.{Table}
+use Rattle.verdict.specs.declared.Verdict.{Verdict}
+use Rattle.verdict.specs.Rules.{orElse}
+use Rattle.verdict.specs.Writer.{outputOf}
+
+abbrev pub square : List ℕ
+square = 6 ∷ 7 ∷ 8 ∷ 11 ∷ 12 ∷ 13 ∷ 16 ∷ 17 ∷ 18 ∷ []
+
+-- values as the bits of a number, the first the lowest
+abbrev pub fromBits : List ℕ → ℕ
+fromBits [] = 0
+fromBits (b ∷ bs) = b + 2 * fromBits bs
+
+unfoldable pub pattern : List (List ℕ) → ℕ
+pattern win = fromBits (map (windowAt win) square)
+
+unfoldable pub fiveOrMore : ℕ → ℕ
+fiveOrMore p = one (leb 5 (count (bit p) (upTo 9)))
+
+unfoldable pub preview : ℕ → ℕ → List ℕ → List ℕ
+preview w h img = tab (λ i. fiveOrMore (pattern (window w h img (i / w) (i % w)))) (w * h)
+
+abbrev pub neighbours : List ℕ
+neighbours = 6 ∷ 7 ∷ 8 ∷ 11 ∷ 13 ∷ 16 ∷ 17 ∷ 18 ∷ []
+
+-- the mask of the neighbours that the bits of s choose
+unfoldable pub chosen : ℕ → List ℕ → ℕ
+chosen s [] = 0
+chosen s (n ∷ ns) = s % 2 * 2 ^ n + chosen (s / 2) ns
+
+unfoldable pub medianElements : List ℕ
+medianElements = map (λ s. chosen s neighbours) (keep (λ s. eqb (count (bit s) (upTo 8)) 5) (upTo 256))
+
+-- a table with those elements
+unfoldable pub medianTable : Table
+medianTable = record { count = 56; elements = medianElements ++ replicate 8 0; persistent = 13597056 }
+
+abbrev pub Preview : Type 0
+Preview = (w h : ℕ) (img : List ℕ) → IsImage w h img → preview w h img ≡ plain medianTable w h img
+
+unfoldable pub previewVerdict : ℕ → ℕ → List ℕ → ℕ → Verdict
+previewVerdict w h px n = orElse (pixelVerdict w h px) (areaRule w h n)
+
+unfoldable pub previewArea : ℕ → ℕ → List ℕ → List ℕ → List ℕ
+previewArea w h px area = outputOf (previewVerdict w h px (length area)) (preview w h px) area

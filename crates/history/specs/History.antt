@@ -1,0 +1,110 @@
+-- The reference model beside a list of calls (01: the book). It sees the calls' arguments and the areas' lengths, never the record
+-- or the areas' bytes.
+--     Entry            a table, a row of images and perhaps a mark (settled)
+--     History          empty, or an entry
+--     Lengths          the lengths of the two areas
+--     refusedBy c n H      what is refused follows from 01's lists, the history standing for the record, without 14
+--     after c n H          the history after a call: a refused one leaves it alone
+-- Assumes nothing.
+use mathlib.Core.Bool.{Bool, true, false, cond, not}
+use mathlib.Core.List.{List, [], _∷_}
+use Prim.Native.Nat.{ℕ, zero, suc, _+_, _*_}
+use lib.Dec.{ltb}
+use lib.ListN.{length}
+use Rattle.filter.specs.Image.{differs}
+use Rattle.filter.specs.Pass as filter
+use Rattle.history.specs.Call.{Call, load, pass, run, view, figures, collect}
+use Rattle.history.specs.Load.{areasRule}
+use Rattle.image.specs.File.{fileVerdict, imageBytes}
+use Rattle.image.specs.Header.{widthOf, heightOf}
+use Rattle.image.specs.RoundTrip.{imageOf}
+use Rattle.table.specs.declared.Table.{Table}
+use Rattle.table.specs.Record.{recordVerdict}
+use Rattle.verdict.specs.declared.Verdict.{Verdict}
+use Rattle.verdict.specs.declared.Verdict.the-variants.{Accepted, Refused}
+use Rattle.verdict.specs.Rules.{refusal, refuseIf, judge}
+
+pub record Entry : Type 0 where
+  pub table : Table
+  pub width : ℕ
+  pub height : ℕ
+  -- the row of images, from the last to the first
+  pub last : List ℕ
+  pub earlier : List (List ℕ)
+  pub settled : Bool
+
+pub data History : Type 0 where
+  empty : History
+  holds : Entry → History
+
+pub record Lengths : Type 0 where
+  pub first : ℕ
+  pub second : ℕ
+
+-- a load enters its table and its image, no mark
+unfoldable pub entered : Table → List ℕ → Entry
+entered t f = record { table = t; width = widthOf f; height = heightOf f; last = imageOf f; earlier = []; settled = false }
+
+-- the last image through one pass
+unfoldable pub nextOf : Entry → List ℕ
+nextOf e = filter.pass (e .table) (e .width) (e .height) (e .last)
+
+unfoldable pub joined : Entry → Entry
+joined e =
+    record {
+      table = e .table;
+      width = e .width;
+      height = e .height;
+      last = nextOf e;
+      earlier = e .last ∷ e .earlier;
+      settled = false;
+    }
+
+unfoldable pub marked : Entry → Entry
+marked e =
+    record { table = e .table; width = e .width; height = e .height; last = e .last; earlier = e .earlier; settled = true }
+
+-- pass: with the mark, nothing; else a result that differs joins the row, one that does not sets the mark
+unfoldable pub passed : Entry → Entry
+passed e = cond (e .settled) e (cond (differs (e .last) (nextOf e)) (joined e) (marked e))
+
+-- run: passes until the mark stands, at most n
+abbrev pub passedFor : ℕ → Entry → Entry
+passedFor zero e = e
+passedFor (suc n) e = passedFor n (passed e)
+
+unfoldable pub ran : Entry → Entry
+ran e = passedFor (e .width * e .height + 1) e
+
+unfoldable pub refusedBy : Call → Lengths → History → Verdict
+refusedBy (load t f) n empty = judge (recordVerdict t ∷ fileVerdict f ∷ areasRule f (n .first) (n .second) ∷ [])
+refusedBy (load t f) n (holds e) = Refused (refusal 15 0)
+refusedBy pass n empty = Refused (refusal 16 0)
+refusedBy pass n (holds e) = Accepted
+refusedBy run n empty = Refused (refusal 16 0)
+refusedBy run n (holds e) = Accepted
+refusedBy view n empty = Refused (refusal 16 0)
+refusedBy view n (holds e) = Accepted
+refusedBy figures n empty = Refused (refusal 16 0)
+refusedBy figures n (holds e) = Accepted
+refusedBy (collect out) n empty = Refused (refusal 16 0)
+refusedBy (collect out) n (holds e) =
+    judge (refuseIf (not (e .settled)) 17 0 ∷ refuseIf (ltb (length out) (length (imageBytes (e .width) (e .height) (e .last)))) 13 0 ∷ [])
+
+-- an accepted call
+unfoldable pub accepted : Call → History → History
+accepted (load t f) H = holds (entered t f)
+accepted pass empty = empty
+accepted pass (holds e) = holds (passed e)
+accepted run empty = empty
+accepted run (holds e) = holds (ran e)
+accepted view H = H
+accepted figures H = H
+accepted (collect out) H = empty
+
+abbrev pub afterAs : Verdict → Call → History → History
+afterAs Accepted c H = accepted c H
+afterAs (Refused r) c H = H
+
+unfoldable pub after : Call → Lengths → History → History
+after c n H = afterAs (refusedBy c n H) c H

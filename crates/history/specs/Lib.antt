@@ -1,0 +1,10 @@
+pub mod State
+pub mod Load
+pub mod Pass
+pub mod Run
+pub mod View
+pub mod Collect
+pub mod Call
+pub mod History
+pub mod Lists
+pub mod Demand3

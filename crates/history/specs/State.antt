@@ -1,0 +1,73 @@
+-- A job: the record and the two work areas (01, The job), and when it is unsound (14).
+--     State             record and areas
+--     emptyJob          every field zero
+--     pixels j          width × height
+--     present s         the area that holds the image: the first when passes is even, else the second
+--     image s           the present image
+--     unsound s         01's 14, without its pass clause
+--     soundRule s, loadedRule s      14, and 16 at stage 0
+-- Assumes nothing.
+use mathlib.Core.Bool.{Bool, cond, not, _&&_, _||_}
+use mathlib.Core.List.{List, [], _∷_}
+use Prim.Native.Nat.{ℕ, _+_, _*_, _%_}
+use lib.Dec.{ltb, eqb}
+use lib.ListN.{length, take}
+use Rattle.history.specs.declared.Job.{Job}
+use Rattle.image.specs.Size.{badSize}
+use Rattle.seq.specs.Lists.{any, all}
+use Rattle.table.specs.Record.{zeroTable, recordVerdict}
+use Rattle.verdict.specs.declared.Verdict.{Verdict}
+use Rattle.verdict.specs.Rules.{refuseIf, judge, isAccepted}
+
+pub record State : Type 0 where
+  pub job : Job
+  pub first : List ℕ
+  pub second : List ℕ
+
+unfoldable pub emptyJob : Job
+emptyJob = record { stage = 0; width = 0; height = 0; passes = 0; added = 0; removed = 0; table = zeroTable }
+
+abbrev pub pixels : Job → ℕ
+pixels j = j .width * j .height
+
+abbrev pub even : ℕ → Bool
+even n = eqb (n % 2) 0
+
+unfoldable pub present : State → List ℕ
+present s = cond (even (s .job .passes)) (s .first) (s .second)
+
+unfoldable pub image : State → List ℕ
+image s = take (pixels (s .job)) (present s)
+
+-- an area is shorter than the image
+abbrev pub short : Job → List ℕ → Bool
+short j area = ltb (length area) (pixels j)
+
+-- stage 0 with a nonzero field
+unfoldable pub nonzero : Job → Bool
+nonzero j =
+    not
+    (all (eqb 0) (j .width ∷ j .height ∷ j .passes ∷ j .added ∷ j .removed ∷ j .table .count ∷ j .table .persistent ∷ [])
+    && all (eqb 0) (j .table .elements))
+
+-- what 14 asks at stage 1 and 2
+unfoldable pub inconsistent : State → Bool
+inconsistent s =
+    badSize (s .job .width) (s .job .height)
+    || (not (isAccepted (recordVerdict (s .job .table)))
+    || ((short (s .job) (s .first) || short (s .job) (s .second))
+    || (any (ltb 1) (image s)
+    || (ltb (pixels (s .job)) (s .job .passes) || ltb (pixels (s .job)) (s .job .added + s .job .removed)))))
+
+unfoldable pub unsound : State → Bool
+unsound s = ltb 2 (s .job .stage) || cond (eqb (s .job .stage) 0) (nonzero (s .job)) (inconsistent s)
+
+abbrev pub soundRule : State → Verdict
+soundRule s = refuseIf (unsound s) 14 0
+
+abbrev pub loadedRule : State → Verdict
+loadedRule s = refuseIf (eqb (s .job .stage) 0) 16 0
+
+-- 14, 16: what pass, run, view and figures begin with
+unfoldable pub readyVerdict : State → Verdict
+readyVerdict s = judge (soundRule s ∷ loadedRule s ∷ [])

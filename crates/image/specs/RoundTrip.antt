@@ -1,0 +1,29 @@
+-- Images there and back (01, demand 2: files round-trip to the byte).
+--     imageOf f    the pixels of an accepted file
+-- Assumes nothing.
+use mathlib.Core.Bool.{true}
+use mathlib.Core.List.{List}
+use mathlib.Core.Path.{_≡_}
+use Prim.Native.Nat.{ℕ}
+use lib.Pow.{areBytes}
+use Rattle.image.specs.File.{pixelsOf, fileVerdict, pixelVerdict, imageBytes}
+use Rattle.image.specs.Header.{raster, widthOf, heightOf}
+use Rattle.verdict.specs.declared.Verdict.the-variants.{Accepted}
+
+unfoldable pub imageOf : List ℕ → List ℕ
+imageOf f = pixelsOf (widthOf f) (heightOf f) (raster f)
+
+-- what reading the file of an image gives
+pub record ReadBack (w h : ℕ) (px : List ℕ) : Type 0 where
+  pub accepted : fileVerdict (imageBytes w h px) ≡ Accepted
+  pub width : widthOf (imageBytes w h px) ≡ w
+  pub height : heightOf (imageBytes w h px) ≡ h
+  pub pixels : imageOf (imageBytes w h px) ≡ px
+
+pub record ImageRoundTrip : Type 0 where
+  -- an image that the writer accepts, written and read, is accepted and is the same image
+  pub image-back : (w h : ℕ) (px : List ℕ) → pixelVerdict w h px ≡ Accepted → ReadBack w h px
+  -- an accepted file, read and written, has the same bytes
+  pub file-back : (f : List ℕ) → areBytes f ≡ true → fileVerdict f ≡ Accepted → imageBytes (widthOf f) (heightOf f) (imageOf f) ≡ f
+  -- what the reader gives, the writer accepts
+  pub read-checked : (f : List ℕ) → fileVerdict f ≡ Accepted → pixelVerdict (widthOf f) (heightOf f) (imageOf f) ≡ Accepted

@@ -1,0 +1,6 @@
+pub mod Mask
+pub mod Record
+pub mod Number
+pub mod File
+pub mod RoundTrip
+pub mod Cases

@@ -1,0 +1,89 @@
+-- The verdict on a table record (01: 3, 4, 6, 5, 7).
+--     element t k       element place k, from 0
+--     masks t           the elements
+--     persistents t     the persistent elements (01: the keeper)
+--     disjointFrom t k  the lowest earlier element that shares no position with element k
+--     missing t k       some persistent element is not persistent for element k
+--     recordVerdict t   accepted, or number and place
+-- Assumes nothing.
+use mathlib.Core.Bool.{Bool, not, cond, _&&_, _||_}
+use mathlib.Core.List.{List, [], _∷_}
+use mathlib.Core.Option.{Option}
+use Prim.Native.Nat.{ℕ, suc, _+_, _-_}
+use lib.Dec.{leb, ltb, eqb}
+use lib.ListN.{getD, take, replicate}
+use Rattle.seq.specs.Bits.{bit}
+use Rattle.seq.specs.Lists.{any, isSome}
+use Rattle.seq.specs.Tab.{first}
+use Rattle.table.specs.declared.Table.{Table}
+use Rattle.table.specs.Mask.{centre, validMask, meets, persistentFor}
+use Rattle.verdict.specs.declared.Verdict.{Verdict}
+use Rattle.verdict.specs.Rules.{refuseIf, refuseAt, judge}
+
+abbrev pub maxElements : ℕ
+maxElements = 64
+
+abbrev pub element : Table → ℕ → ℕ
+element t k = getD (t .elements) k 0
+
+unfoldable pub masks : Table → List ℕ
+masks t = take (t .count) (t .elements)
+
+unfoldable pub persistents : Table → List ℕ
+persistents t = t .persistent ∷ []
+
+abbrev pub zeroTable : Table
+zeroTable = record { count = 0; elements = replicate maxElements 0; persistent = 0 }
+
+-- rule 3
+unfoldable pub badCount : Table → Bool
+badCount t = not (leb 1 (t .count) && leb (t .count) maxElements)
+
+-- not above the one before
+unfoldable pub notRising : Table → ℕ → Bool
+notRising t k = leb 1 k && leb (element t k) (element t (k - 1))
+
+-- rule 4 at an element place below the count
+unfoldable pub badElement : Table → ℕ → Bool
+badElement t k = not (validMask (element t k)) || (bit (element t k) centre || notRising t k)
+
+-- rule 4 at any place of a record
+unfoldable pub badPlace : Table → ℕ → Bool
+badPlace t k = cond (ltb k (t .count)) (badElement t k) (not (eqb (element t k) 0))
+
+-- rule 6
+unfoldable pub badPersistent : Table → Bool
+badPersistent t = not (validMask (t .persistent))
+
+-- rule 5
+unfoldable pub disjointFrom : Table → ℕ → Option ℕ
+disjointFrom t k = first (λ j. not (meets (element t k) (element t j))) k
+
+-- rule 7
+unfoldable pub missing : Table → ℕ → Bool
+missing t k = any (λ K. not (persistentFor K (element t k))) (persistents t)
+
+abbrev pub countRule : Table → Verdict
+countRule t = refuseIf (badCount t) 3 0
+
+abbrev pub elementRule : Table → ℕ → Verdict
+elementRule t k = refuseIf (badElement t k) 4 (suc k)
+
+abbrev pub persistentRule : Table → Verdict
+persistentRule t = refuseIf (badPersistent t) 6 (t .count + 1)
+
+abbrev pub meetRule : Table → Verdict
+meetRule t = refuseAt (first (λ k. isSome (disjointFrom t k)) (t .count)) 5 suc
+
+abbrev pub persistRule : Table → Verdict
+persistRule t = refuseAt (first (missing t) (t .count)) 7 suc
+
+unfoldable pub recordVerdict : Table → Verdict
+recordVerdict t =
+    judge
+    (countRule t
+    ∷ refuseAt (first (badPlace t) maxElements) 4 suc
+    ∷ persistentRule t
+    ∷ meetRule t
+    ∷ persistRule t
+    ∷ [])

@@ -1,0 +1,65 @@
+-- What a case of 01's "Trial sheets and tables" asks of the definitions.
+--     Case        a case with what is expected
+--     meets c     the definitions give what is expected
+-- Assumes nothing.
+use mathlib.Core.Bool.{Bool, true, false, not, _&&_}
+use mathlib.Core.List.{List, [], _∷_}
+use Prim.Native.Nat.{ℕ, _-_, _*_, _/_, _%_}
+use lib.Dec.{eqb, leb, ltb}
+use lib.ListN.{length, replicate}
+use Rattle.filter.specs.Image.{differsAt}
+use Rattle.filter.specs.Pass.{opened}
+use Rattle.filter.specs.Plain.{plain}
+use Rattle.history.specs.declared.Job.{Job}
+use Rattle.history.specs.Call.{load, run}
+use Rattle.history.specs.Demand3.{played}
+use Rattle.history.specs.View.{viewOf}
+use Rattle.image.specs.File.{imageBytes}
+use Rattle.seq.specs.Lists.{all, count, same, sameList}
+use Rattle.seq.specs.Tab.{upTo}
+use Rattle.table.specs.declared.Table.{Table}
+use Rattle.table.specs.File.{tableOf, fileVerdict, tableBytes}
+use Rattle.table.specs.Record.{recordVerdict}
+use Rattle.verdict.specs.declared.Verdict.{Verdict}
+use Rattle.verdict.specs.declared.Verdict.the-variants.{Accepted, Refused}
+use Rattle.verdict.specs.Rules.{isAccepted}
+
+pub data Case : Type 0 where
+  -- the table's file, both ways
+  tableFile : Table → List ℕ → Case
+  -- number and place of a file, of a record
+  fileRefused : List ℕ → ℕ → ℕ → Case
+  recordRefused : Table → ℕ → ℕ → Case
+  -- table, width, height, image: loaded and run, it rests as this image with these passes, added, removed
+  rests : Table → ℕ → ℕ → List ℕ → List ℕ → ℕ → ℕ → ℕ → Case
+  -- a pixel that is not opened for a value: table, width, height, image, value, row, column
+  notOpened : Table → ℕ → ℕ → List ℕ → ℕ → ℕ → ℕ → Case
+  -- the plain rule changes exactly the pixels that do not touch the border, and they are so many
+  plainInner : Table → ℕ → ℕ → List ℕ → ℕ → Case
+
+abbrev pub sameTable : Table → Table → Bool
+sameTable t u = eqb (t .count) (u .count) && (sameList (t .elements) (u .elements) && eqb (t .persistent) (u .persistent))
+
+abbrev pub refusedWith : Verdict → ℕ → ℕ → Bool
+refusedWith Accepted n p = false
+refusedWith (Refused r) n p = eqb (r .number) n && eqb (r .place) p
+
+-- pixel i lies in the inside of the image
+abbrev pub inner : ℕ → ℕ → ℕ → Bool
+inner w h i = (leb 1 (i / w) && ltb (i / w) (h - 1)) && (leb 1 (i % w) && ltb (i % w) (w - 1))
+
+abbrev pub countsAre : Job → ℕ → ℕ → ℕ → ℕ → Bool
+countsAre j stage passes added removed =
+    eqb (j .stage) stage && (eqb (j .passes) passes && (eqb (j .added) added && eqb (j .removed) removed))
+
+unfoldable pub meets : Case → Bool
+meets (tableFile t f) = (isAccepted (recordVerdict t) && isAccepted (fileVerdict f)) && (sameList (tableBytes t) f && sameTable (tableOf f) t)
+meets (fileRefused f n p) = refusedWith (fileVerdict f) n p
+meets (recordRefused t n p) = refusedWith (recordVerdict t) n p
+meets (rests t w h img end passes added removed) =
+    let s = played (load t (imageBytes w h img) ∷ run ∷ []) (replicate (w * h) 0) (replicate (w * h) 0) .state in
+    countsAre (s .job) 2 passes added removed && sameList (viewOf s) end
+meets (notOpened t w h img v r c) = not (opened t w h img v r c)
+meets (plainInner t w h img n) =
+    let new = plain t w h img in
+    all (λ i. same (differsAt img new i) (inner w h i)) (upTo (w * h)) && eqb (count (differsAt img new) (upTo (w * h))) n

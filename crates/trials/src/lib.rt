@@ -1,0 +1,1 @@
+// The (P) cases of 01, proved over the definitions.

@@ -1,0 +1,50 @@
+-- The laws of check lists.
+--     judge-append      a list of rules in two parts
+--     judge-accepted    every rule of an accepted list accepts
+--     accepted-judge    a list of rules that all accept
+--     refuseIf-accepted, refuseAt-accepted   what a rule that accepts says of its test, of its search
+-- Assumes nothing.
+use mathlib.Core.Bool.{Bool, true, false}
+use mathlib.Core.List.{List, [], _∷_, _++_, List·Memᴰ, List·Memᴰ·head, List·Memᴰ·tail}
+use mathlib.Core.Option.{Option, none, some}
+use mathlib.Core.Path.{_≡_, refl, _∙_}
+use Prim.Native.Nat.{ℕ}
+use native.Mathlib.Omega.{arith}
+use Rattle.verdict.specs.declared.Refusal.{Refusal}
+use Rattle.verdict.specs.declared.Verdict.{Verdict}
+use Rattle.verdict.specs.declared.Verdict.the-variants.{Accepted, Refused}
+use Rattle.verdict.specs.Rules.{refuseIf, refuseAt, orElse, judge}
+
+pub judge-append : (vs ws : List Verdict) → judge (vs ++ ws) ≡ orElse (judge vs) (judge ws)
+judge-append [] ws = refl
+judge-append (Accepted ∷ vs) ws = judge-append vs ws
+judge-append (Refused r ∷ vs) ws = refl
+
+-- a refusal is no acceptance
+pub refused-accepted {ℓ} : {P : Type ℓ} {v : Verdict} {r : Refusal} → v ≡ Refused r → v ≡ Accepted → P
+refused-accepted p q = absurd (let z : _≡_ {A = ℕ} 0 1 = cc in omega arith)
+
+pub orElse-left : (v w : Verdict) → orElse v w ≡ Accepted → v ≡ Accepted
+orElse-left Accepted w e = refl
+orElse-left (Refused r) w e = e
+
+pub orElse-right : (v w : Verdict) → orElse v w ≡ Accepted → w ≡ Accepted
+orElse-right Accepted w e = e
+orElse-right (Refused r) w e = refused-accepted refl e
+
+pub judge-accepted : {v : Verdict} {vs : List Verdict} → judge vs ≡ Accepted → List·Memᴰ v vs → v ≡ Accepted
+judge-accepted e (List·Memᴰ·head {x = x} {xs = xs} q) = q ∙ orElse-left x (judge xs) e
+judge-accepted e (List·Memᴰ·tail {x = x} {xs = xs} m) = judge-accepted (orElse-right x (judge xs) e) m
+
+pub accepted-judge : (vs : List Verdict) → ((v : Verdict) → List·Memᴰ v vs → v ≡ Accepted) → judge vs ≡ Accepted
+accepted-judge [] h = refl
+accepted-judge (v ∷ vs) h = rw (h v (List·Memᴰ·head refl)) (accepted-judge vs (λ w m. h w (List·Memᴰ·tail m)))
+
+-- a rule that accepts: its test fails, its search finds nothing
+pub refuseIf-accepted : (b : Bool) (n p : ℕ) → refuseIf b n p ≡ Accepted → b ≡ false
+refuseIf-accepted true n p e = refused-accepted refl e
+refuseIf-accepted false n p e = refl
+
+pub refuseAt-accepted : (o : Option ℕ) (n : ℕ) (at : ℕ → ℕ) → refuseAt o n at ≡ Accepted → o ≡ none
+refuseAt-accepted none n at e = refl
+refuseAt-accepted (some k) n at e = refused-accepted refl e

@@ -1,0 +1,37 @@
+-- Check lists: rules in 01's order, of which the first that fails speaks.
+--     refusal n p            the refusal with number n at place p
+--     refuseIf bad n p       refuse with n at p where the test bad holds
+--     refuseAt found n at    refuse with n at the place of what a search found
+--     judge rules            the first refusal of the list, in its order
+-- Assumes nothing.
+use mathlib.Core.Bool.{Bool, true, false}
+use mathlib.Core.List.{List, [], _∷_}
+use mathlib.Core.Option.{Option, none, some}
+use Prim.Native.Nat.{ℕ}
+use Rattle.verdict.specs.declared.Refusal.{Refusal}
+use Rattle.verdict.specs.declared.Verdict.{Verdict}
+use Rattle.verdict.specs.declared.Verdict.the-variants.{Accepted, Refused}
+
+abbrev pub refusal : ℕ → ℕ → Refusal
+refusal n p = record { number = n; place = p }
+
+abbrev pub refuseIf : Bool → ℕ → ℕ → Verdict
+refuseIf true n p = Refused (refusal n p)
+refuseIf false n p = Accepted
+
+abbrev pub refuseAt : Option ℕ → ℕ → (ℕ → ℕ) → Verdict
+refuseAt none n at = Accepted
+refuseAt (some k) n at = Refused (refusal n (at k))
+
+-- the first verdict where it refuses, else the second
+abbrev pub orElse : Verdict → Verdict → Verdict
+orElse Accepted w = w
+orElse (Refused r) w = Refused r
+
+abbrev pub judge : List Verdict → Verdict
+judge [] = Accepted
+judge (v ∷ vs) = orElse v (judge vs)
+
+abbrev pub isAccepted : Verdict → Bool
+isAccepted Accepted = true
+isAccepted (Refused r) = false

@@ -1,0 +1,52 @@
+// What a check or a writer answers, and 01's refusal numbers by name.
+
+// A refusal: number and place.
+pub struct Refusal {
+    pub number: u32,
+    pub place: usize,
+}
+
+pub enum Verdict {
+    Accepted,
+    Refused(Refusal),
+}
+
+// A writer's answer: the file's length, or the refusal.
+pub enum Written {
+    Length(usize),
+    Refused(Refusal),
+}
+
+pub const NUMBER_ENDS: u32 = 1;
+
+pub const NUMBER_FORM: u32 = 2;
+
+pub const ELEMENT_COUNT: u32 = 3;
+
+pub const ELEMENT_RANGE: u32 = 4;
+
+pub const ELEMENTS_DISJOINT: u32 = 5;
+
+pub const PERSISTENT_RANGE: u32 = 6;
+
+pub const NOT_PERSISTENT: u32 = 7;
+
+pub const BYTES_LEFT: u32 = 8;
+
+pub const HEADER_FORM: u32 = 9;
+
+pub const SIZE_RANGE: u32 = 10;
+
+pub const RASTER_LENGTH: u32 = 11;
+
+pub const PIXEL_VALUE: u32 = 12;
+
+pub const AREA_SHORT: u32 = 13;
+
+pub const UNSOUND: u32 = 14;
+
+pub const NOT_COLLECTED: u32 = 15;
+
+pub const NOTHING_LOADED: u32 = 16;
+
+pub const NOT_STABLE: u32 = 17;
