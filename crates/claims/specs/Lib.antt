@@ -1,1 +1,2 @@
+pub mod Operator
 pub mod Trials

@@ -6,3 +6,4 @@ pub mod Exchange
 pub mod Order
 pub mod Rest
 pub mod Heijmans
+pub mod Cases
