@@ -1,2 +1,4 @@
+pub mod Images
+pub mod ListsOfCalls
 pub mod Operator
 pub mod Trials

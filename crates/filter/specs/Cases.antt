@@ -1,15 +1,17 @@
--- Small cases that fix the edge rule and "wholly inside".
+-- Small cases that fix the edge rule, "wholly inside" and the opening.
 --     cases-met     one theorem, computed: images after a pass, and a pixel that no translate opens
 -- Assumes nothing.
 use mathlib.Core.Bool.{Bool, true, not}
 use mathlib.Core.List.{List, [], _∷_, _++_}
 use mathlib.Core.Path.{_≡_, refl}
-use Prim.Native.Nat.{ℕ, _-_}
+use Prim.Native.Nat.{ℕ, _+_, _-_, _/_, _%_}
 use lib.ListN.{replicate}
+use Rattle.filter.specs.Heijmans.{psiAt, psi, alpha, beta, modified}
+use Rattle.filter.specs.Image.{exchange}
 use Rattle.filter.specs.Pass.{inside, solid, opened, held, passAt, pass}
 use Rattle.seq.specs.Bits.{bit, bitsOf}
 use Rattle.seq.specs.Lists.{all, sameList}
-use Rattle.seq.specs.Tab.{upTo}
+use Rattle.seq.specs.Tab.{tab, upTo}
 use Rattle.table.specs.declared.Table.{Table}
 use Rattle.table.specs.Mask.{positions}
 use Rattle.table.specs.Record.{masks, persistents}
@@ -29,11 +31,27 @@ stays i = sameList (pass ring 5 5 (dot 25 i)) (dot 25 i)
 abbrev goes : ℕ → Bool
 goes i = sameList (pass ring 5 5 (dot 25 i)) (replicate 25 0)
 
+-- the four neighbours, two side by side
+abbrev cross : Table
+cross = record { count = 1; elements = 141440 ∷ replicate 63 0; persistent = 12288 }
+
+abbrev chessboard : List ℕ
+chessboard = tab (λ i. (i / 6 + i % 6) % 2) 36
+
 -- a dot at a corner stands for its own neighbours outside, and stays; one inside goes. In a 4 × 4 image with the dot at (1, 1), no
--- translate that is wholly inside opens (0, 0)
+-- translate that is wholly inside opens (0, 0). Nothing opens a pixel of a chessboard, so it stays, by the report's formula too
 abbrev cases : List Bool
-cases = stays 0 ∷ stays 4 ∷ stays 20 ∷ stays 24 ∷ goes 12 ∷ not (opened ring 4 4 (dot 16 5) 0 0 0) ∷ []
+cases =
+    stays 0
+    ∷ stays 4
+    ∷ stays 20
+    ∷ stays 24
+    ∷ goes 12
+    ∷ not (opened ring 4 4 (dot 16 5) 0 0 0)
+    ∷ sameList (pass cross 6 6 chessboard) chessboard
+    ∷ sameList (modified cross 6 6 chessboard) chessboard
+    ∷ []
 
 pub cases-met : all (λ b. b) cases ≡ true
-unfolding inside solid opened held passAt pass positions masks persistents bit bitsOf upTo
+unfolding inside solid opened held passAt pass psiAt psi alpha beta modified exchange positions masks persistents bit bitsOf upTo
 cases-met = refl

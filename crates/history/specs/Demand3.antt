@@ -16,7 +16,7 @@ use lib.ListN.{length, replicate}
 use Rattle.filter.specs.Image.{black, added, removed, differsAt, exchange, Covered}
 use Rattle.filter.specs.Pass as filter
 use Rattle.history.specs.declared.Passed.the-variants as passing
-use Rattle.history.specs.Call.{Call, pass, run, answerOf, refusalOf}
+use Rattle.history.specs.Call.{Call, pass, run, answerOf, stateOf, refusalOf}
 use Rattle.history.specs.History.{Entry, empty, holds, refusedBy}
 use Rattle.history.specs.Lists.{Course, start, lengthsOf, step, play, firstOf, overSteps}
 use Rattle.history.specs.Pass.{passOf}
@@ -67,6 +67,8 @@ pub record AfterList (w : Course) : Type 0 where
   -- the next call, whatever it is, is refused exactly as the history says, and never by 14
   pub refused : (c : Call) → refusalOf (answerOf c (w .state)) ≡ refusedBy c (lengthsOf (w .state)) (w .history)
   pub never-14 : (c : Call) (r : Refusal) → refusalOf (answerOf c (w .state)) ≡ Refused r → r .number ≢ 14
+  -- and a refused call alters neither record nor areas
+  pub unaltered : (c : Call) (r : Refusal) → refusalOf (answerOf c (w .state)) ≡ Refused r → stateOf c (w .state) ≡ w .state
 
 pub record Twins (w w' : Course) (e e' : Entry) : Type 0 where
   pub here : w .history ≡ holds e

@@ -8,3 +8,4 @@ pub mod Call
 pub mod History
 pub mod Lists
 pub mod Demand3
+pub mod Cases

@@ -32,6 +32,8 @@ records =
     ∷ of (2048 ∷ 8192 ∷ []) 0
     -- disjoint elements speak before a persistent element that is none
     ∷ of (2048 ∷ 8192 ∷ []) 4096
+    -- a single point is not persistent
+    ∷ of (469440 ∷ []) 4096
     -- a place past the count is zero
     ∷ record { count = 1; elements = 141440 ∷ 0 ∷ 0 ∷ 9 ∷ replicate 60 0; persistent = 12288 }
     ∷ []
@@ -56,6 +58,7 @@ expected =
     ∷ Refused (refusal 4 1)
     ∷ Refused (refusal 6 3)
     ∷ Refused (refusal 5 2)
+    ∷ Refused (refusal 7 1)
     ∷ Refused (refusal 4 4)
     ∷ Refused (refusal 2 0)
     ∷ Refused (refusal 1 0)

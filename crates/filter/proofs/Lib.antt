@@ -1,0 +1,16 @@
+pub mod Lists
+pub mod Index
+pub mod Masks
+pub mod Accepted
+pub mod Placed
+pub mod Translates
+pub mod System
+pub mod Image
+pub mod Operator
+pub mod SingleChange
+pub mod Counts
+pub mod Exchange
+pub mod Order
+pub mod Rest
+pub mod Heijmans
+pub mod Kept

@@ -1,0 +1,97 @@
+-- More laws of lists, with no domain word in them.
+--     and-cong, and-swap, or-none, not-some      truth values and options
+--     any-append, any-join, any-keep, any-false  `any` of two lists, of a join, of what is kept, and where it fails
+--     all-and, all-getD, all-tab                 `all` of two tests together, at an element, and of a table
+--     map-ext, getD-map, take-place              an image by elements, its element, and where an element of a part stands
+--     count-tab                                  counting over a table
+-- Assumes nothing.
+use mathlib.Core.Bool.{Bool, true, false, cond, _&&_, _||_, or-assoc}
+use mathlib.Core.List.{List, [], _∷_, _++_, map, List·Memᴰ, List·Memᴰ·head, List·Memᴰ·tail, List·Memᴰ·not-nil, List·Memᴰ·cases-cons}
+use mathlib.Core.Logic.{⊎-elim}
+use mathlib.Core.Option.{Option, none, some}
+use mathlib.Core.Path.{_≡_, refl, sym, ap, ap₂, _∙_}
+use Prim.Native.Nat.{ℕ, zero, suc, _+_, _<_}
+use native.Mathlib.Nat.{not-suc-le-zero, le-of-suc-le-suc}
+use native.Mathlib.Omega.{arith}
+use lib.ListN.{length, getD, take}
+use Rattle.seq.specs.Lists.{any, all, keep, one, count, join, isSome}
+use Rattle.seq.specs.Tab.{tab, upTo}
+use Rattle.seq.proofs.Lists.{clash, not-true-false, and-left, and-right, and-intro, any-intro}
+
+-- the second test counts only where the first holds
+pub and-cong : (a : Bool) {b b' : Bool} → (a ≡ true → b ≡ b') → (a && b) ≡ (a && b')
+and-cong true h = h refl
+and-cong false h = refl
+
+and-swap : (a b c d : Bool) → ((a && b) && (c && d)) ≡ ((a && c) && (b && d))
+and-swap true true c d = refl
+and-swap true false true d = refl
+and-swap true false false d = refl
+and-swap false b c d = refl
+
+pub or-none : (a b : Bool) → (a || b) ≡ false → a ≡ false
+or-none true b h = h
+or-none false b h = refl
+
+pub not-some {ℓ} : {A : Type ℓ} (o : Option A) → isSome o ≡ false → o ≡ none
+not-some none h = refl
+not-some (some a) h = clash refl h
+
+module _ {ℓ} {A : Type ℓ} where
+  any-append : (p : A → Bool) (l k : List A) → any p (l ++ k) ≡ (any p l || any p k)
+  any-append p [] k = refl
+  any-append p (x ∷ l) k = ap (λ b. p x || b) (any-append p l k) ∙ sym (or-assoc (p x) (any p l) (any p k))
+
+  pub any-join : (p : A → Bool) (ls : List (List A)) → any p (join ls) ≡ any (any p) ls
+  any-join p [] = refl
+  any-join p (l ∷ ls) = any-append p l (join ls) ∙ ap (λ b. any p l || b) (any-join p ls)
+
+  pub any-keep : (p q : A → Bool) (l : List A) → any p (keep q l) ≡ any (λ a. q a && p a) l
+  any-keep p q [] = refl
+  any-keep p q (x ∷ l) = step (q x) (any-keep p q l)
+    where
+      step : (b : Bool) → any p (keep q l) ≡ any (λ a. q a && p a) l
+          → any p (cond b (x ∷ keep q l) (keep q l)) ≡ ((b && p x) || any (λ a. q a && p a) l)
+      step true e = ap (λ b. p x || b) e
+      step false e = e
+
+  pub any-false : (p : A → Bool) {a : A} {l : List A} → any p l ≡ false → List·Memᴰ a l → p a ≡ false
+  any-false p {a} h m = not-true-false (p a) (λ e. clash (any-intro p m e) h)
+
+  pub all-and : (p q : A → Bool) (l : List A) → (all p l && all q l) ≡ all (λ a. p a && q a) l
+  all-and p q [] = refl
+  all-and p q (x ∷ l) = and-swap (p x) (all p l) (q x) (all q l) ∙ ap (λ b. (p x && q x) && b) (all-and p q l)
+
+  pub all-getD : (p : A → Bool) (l : List A) (d : A) → all p l ≡ true → p d ≡ true → (i : ℕ) → p (getD l i d) ≡ true
+  all-getD p [] d h e i = e
+  all-getD p (x ∷ l) d h e zero = and-left (p x) (all p l) h
+  all-getD p (x ∷ l) d h e (suc i) = all-getD p l d (and-right (p x) (all p l) h) e i
+
+  pub all-tab : (p : A → Bool) (f : ℕ → A) (n : ℕ) → ((k : ℕ) → k < n → p (f k) ≡ true) → all p (tab f n) ≡ true
+  all-tab p f zero h = refl
+  all-tab p f (suc n) h = and-intro (h zero (omega arith)) (all-tab p (λ k. f (suc k)) n (λ k l. h (suc k) (omega arith)))
+
+  pub map-ext : (f g : A → A) (l : List A) → ((a : A) → List·Memᴰ a l → f a ≡ g a) → map f l ≡ map g l
+  map-ext f g [] h = refl
+  map-ext f g (x ∷ l) h = ap₂ _∷_ (h x (List·Memᴰ·head refl)) (map-ext f g l (λ a m. h a (List·Memᴰ·tail m)))
+
+  pub getD-map : (f : A → A) (l : List A) (i : ℕ) (d : A) → i < length l → getD (map f l) i d ≡ f (getD l i d)
+  getD-map f [] i d h = absurd (not-suc-le-zero h)
+  getD-map f (x ∷ l) zero d h = refl
+  getD-map f (x ∷ l) (suc i) d h = getD-map f l i d (le-of-suc-le-suc h)
+
+  pub take-place : (n : ℕ) (l : List A) (d : A) {a : A} → List·Memᴰ a (take n l) → (k : ℕ) × (k < n) × (a ≡ getD l k d)
+  take-place zero l d m = absurd (List·Memᴰ·not-nil m)
+  take-place (suc n) [] d m = absurd (List·Memᴰ·not-nil m)
+  take-place (suc n) (x ∷ l) d {a} m = ⊎-elim (λ e. (zero, omega arith, e)) (λ k. later (take-place n l d k)) (List·Memᴰ·cases-cons m)
+    where
+      later : (k : ℕ) × (k < n) × (a ≡ getD l k d) → (k : ℕ) × (k < suc n) × (a ≡ getD (x ∷ l) k d)
+      later (k, i, e) = (suc k, omega arith, e)
+
+  count-tab-of : (p : A → Bool) (f : ℕ → A) (g : ℕ → ℕ) (n : ℕ) → count p (tab (λ k. f (g k)) n) ≡ count (λ i. p (f i)) (tab g n)
+  count-tab-of p f g zero = refl
+  count-tab-of p f g (suc n) = ap (λ m. one (p (f (g zero))) + m) (count-tab-of p f (λ k. g (suc k)) n)
+
+  pub count-tab : (p : A → Bool) (f : ℕ → A) (n : ℕ) → count p (tab f n) ≡ count (λ i. p (f i)) (upTo n)
+  unfolding upTo
+  count-tab p f n = count-tab-of p f (λ k. k) n

@@ -1,0 +1,94 @@
+-- What 01 says of record, areas and history after a list, from the relation.
+--     agrees                           record, areas and entry agree
+--     stage-empty, stage-settled       stage 0 and 2
+--     after-related                    all of it
+-- Assumes nothing.
+use mathlib.Core.Bool.{Bool, true, false}
+use mathlib.Core.Logic.{_↔_}
+use mathlib.Core.Path.{_≡_, refl, sym, ap, _∙_, subst}
+use Prim.Native.Nat.{ℕ}
+use native.Mathlib.Omega.{arith}
+use Rattle.history.specs.declared.Job.{Job}
+use Rattle.history.specs.Call.{Call, answerOf, refusalOf}
+use Rattle.history.specs.Demand3.{Agrees, RunAsPasses, AfterList}
+use Rattle.history.specs.History.{Entry, History, empty, holds, refusedBy}
+use Rattle.history.specs.Lists.{Course, lengthsOf}
+use Rattle.history.specs.State.{State, emptyJob}
+use Rattle.history.proofs.Never14.{never-14}
+use Rattle.history.proofs.Refused.{refused, unaltered}
+use Rattle.history.proofs.Related.{stageOf, Held, RelatedTo, Related}
+use Rattle.history.proofs.Row.{row-bound, row-single, row-balance}
+use Rattle.history.proofs.Run.{run-as-passes}
+use Rattle.history.proofs.Theory.{Theory}
+use Rattle.history.proofs.View.{view-held, operated}
+
+pub agrees : Theory → {s : State} {e : Entry} {n : ℕ} → Held s e n → Agrees s e
+agrees th {s} r = record {
+  table = ap (λ (j : Job). j .table) (r .job);
+  width = ap (λ (j : Job). j .width) (r .job);
+  height = ap (λ (j : Job). j .height) (r .job);
+  view = view-held th r;
+  passes = ap (λ (j : Job). j .passes) (r .job);
+  added = ap (λ (j : Job). j .added) (r .job);
+  removed = ap (λ (j : Job). j .removed) (r .job);
+  balance = rw (r .job) (row-balance th (r .accepted) (r .row) (r .begun));
+  single = row-single th (r .accepted) (r .row) (r .begun);
+  bound = row-bound th (r .accepted) (r .row) (r .begun);
+}
+
+-- the stage of a record that holds an entry
+stage-of : {s : State} {e : Entry} {n : ℕ} → Held s e n → s .job .stage ≡ stageOf (e .settled)
+stage-of r = ap (λ (j : Job). j .stage) (r .job)
+
+stage-nonzero : (b : Bool) → stageOf b ≡ 0 → ⊥
+stage-nonzero true q = omega arith
+stage-nonzero false q = omega arith
+
+stage-two : (b : Bool) → stageOf b ≡ 2 → b ≡ true
+stage-two true q = refl
+stage-two false q = absurd (omega arith)
+
+-- an entry is not the empty history
+holds-empty {ℓ} : {P : Type ℓ} (e : Entry) → holds e ≡ empty → P
+holds-empty e q = absurd (let z : _≡_ {A = ℕ} 0 1 = cc in omega arith)
+
+stage-zero : (s : State) → s .job ≡ emptyJob → s .job .stage ≡ 0
+unfolding emptyJob
+stage-zero s q = ap (λ (j : Job). j .stage) q
+
+stage-empty : (s : State) (H : History) (n : ℕ) → RelatedTo s H n → (s .job .stage ≡ 0) ↔ (H ≡ empty)
+stage-empty s empty n q = (λ x. refl, λ x. stage-zero s q)
+stage-empty s (holds e) n r = (λ x. absurd (stage-nonzero (e .settled) (sym (stage-of r) ∙ x)), holds-empty e)
+
+stage-settled : (s : State) (H : History) (n : ℕ) → RelatedTo s H n
+    → (s .job .stage ≡ 2) ↔ ((e : Entry) × (H ≡ holds e) × (e .settled ≡ true))
+stage-settled s empty n q = (λ x. absurd (let z = stage-zero s q in omega arith), λ x. holds-empty (x .0) (sym (x .1)))
+stage-settled s (holds e) n r = (
+  λ x. (e, refl, stage-two (e .settled) (sym (stage-of r) ∙ x)),
+  λ x. let same : e ≡ x .0 = cc (x .1) in stage-of r ∙ ap (λ (d : Entry). stageOf (d .settled)) same ∙ ap stageOf (x .2),
+)
+
+-- the record and the areas hold the entry that the history holds
+pub held : (w : Course) → Related w → (e : Entry) → w .history ≡ holds e → Held (w .state) e (w .tally)
+held w r e q = subst (λ (H : History). RelatedTo (w .state) H (w .tally)) q r
+
+module _ (th : Theory) where
+  run-from : (w : Course) → Related w → (e : Entry) → w .history ≡ holds e → RunAsPasses w e
+  run-from w r e q =
+      subst (λ (H : History). RunAsPasses (record { state = w .state; history = H; tally = w .tally }) e) (sym q)
+      (run-as-passes th (held w r e q))
+
+  pub after-related : (w : Course) → Related w → AfterList w
+  after-related w r = record {
+    stage-empty = stage-empty (w .state) (w .history) (w .tally) r;
+    stage-settled = stage-settled (w .state) (w .history) (w .tally) r;
+    agrees = λ e q. agrees th (held w r e q);
+    operated = λ e q. operated th (held w r e q);
+    run-as-passes = run-from w r;
+    refused = same;
+    never-14 = λ c x q. never-14 c (lengthsOf (w .state)) (w .history) x (sym (same c) ∙ q);
+    unaltered = λ c x. unaltered th c (w .state) (w .history) (w .tally) x r;
+  }
+    where
+      same : (c : Call) → refusalOf (answerOf c (w .state)) ≡ refusedBy c (lengthsOf (w .state)) (w .history)
+      same c = refused th c (w .state) (w .history) (w .tally) r

@@ -1,0 +1,58 @@
+-- The relation between record, areas and history that every call keeps.
+--     stageOf b          the stage, with or without the mark
+--     jobOf e            the record that an entry says
+--     Held s e n         record and areas hold the entry e, after n accepted passes since the load
+--     Related w          the relation, after any list of calls
+-- Assumes nothing.
+use mathlib.Core.Bool.{Bool, true, false, cond}
+use mathlib.Core.Path.{_≡_}
+use Prim.Native.Nat.{ℕ, _*_, _≤_}
+use lib.ListN.{length}
+use Rattle.filter.specs.Image.{IsImage, added, removed}
+use Rattle.filter.specs.Pass as filter
+use Rattle.history.specs.declared.Job.{Job}
+use Rattle.history.specs.History.{Entry, History, empty, holds}
+use Rattle.history.specs.Lists.{Course, firstOf, overSteps}
+use Rattle.history.specs.State.{State, emptyJob, image}
+use Rattle.history.proofs.Row.{Row}
+use Rattle.image.specs.Size.{badSize}
+use Rattle.table.specs.Record.{recordVerdict}
+use Rattle.verdict.specs.declared.Verdict.the-variants.{Accepted}
+
+-- stage 2 with the mark, else 1
+abbrev pub stageOf : Bool → ℕ
+stageOf b = cond b 2 1
+
+abbrev pub jobOf : Entry → Job
+jobOf e =
+    record {
+      stage = stageOf (e .settled);
+      width = e .width;
+      height = e .height;
+      passes = length (e .earlier);
+      added = overSteps added e;
+      removed = overSteps removed e;
+      table = e .table;
+    }
+
+pub record Held (s : State) (e : Entry) (n : ℕ) : Type 0 where
+  pub job : s .job ≡ jobOf e
+  -- the table was accepted, and the size is within the limits
+  pub accepted : recordVerdict (e .table) ≡ Accepted
+  pub sized : badSize (e .width) (e .height) ≡ false
+  pub first-long : e .width * e .height ≤ length (s .first)
+  pub second-long : e .width * e .height ≤ length (s .second)
+  -- the present image is the last of a row of passes from an image
+  pub shown : image s ≡ e .last
+  pub begun : IsImage (e .width) (e .height) (firstOf e)
+  pub row : Row (e .table) (e .width) (e .height) (e .last) (e .earlier)
+  pub stable : e .settled ≡ true → filter.Stable (e .table) (e .width) (e .height) (e .last)
+  -- and the first image after all accepted passes, quiet ones too
+  pub tallied : filter.passes (e .table) (e .width) (e .height) n (firstOf e) ≡ e .last
+
+abbrev pub RelatedTo : State → History → ℕ → Type 0
+RelatedTo s empty n = s .job ≡ emptyJob
+RelatedTo s (holds e) n = Held s e n
+
+abbrev pub Related : Course → Type 0
+Related w = RelatedTo (w .state) (w .history) (w .tally)
