@@ -1,3 +1,4 @@
+pub mod Files
 pub mod Images
 pub mod ListsOfCalls
 pub mod Operator

@@ -2,3 +2,4 @@ pub mod Size
 pub mod Header
 pub mod File
 pub mod RoundTrip
+pub mod Layout

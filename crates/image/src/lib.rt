@@ -1,8 +1,93 @@
-// An image file: what reading it answers.
+// Image files (01: sheets): raw PBM in one strict form, read into a lent area of pixel bytes and written from pixel bytes. A pixel is 0 or 1,
+// one byte in memory, in row order.
+use crate::layout::Layout;
 use verdict::Refusal;
+use verdict::Verdict;
+use verdict::Written;
+ghost use mathlib.Core.Path.{_≡_};
+ghost use lib.ListN.{length};
+ghost use Rattle.image.specs.File.{imageRead, imageArea, pixelVerdict, imageWritten, imageOutput};
+ghost use Rattle.verdict.specs.Rules.{refusal};
+
+mod header;
+mod layout;
+mod number;
+mod pack;
+mod pixels;
+mod raster;
+mod size;
+mod unpack;
 
 // The size of the image read, or the refusal.
 pub enum ImageRead {
     Size { width: usize, height: usize },
     Refused(Refusal),
+}
+
+// Reads an image file into the front of an area: 9 to 12 in order, then 13. All is judged before the first byte is stored.
+pub fn read(file: &[u8], area: &mut [u8]) -> ImageRead
+    ensures { λ r. ⌜ (r ≡ imageRead (now (file .entry)) (length (now (area .entry))))
+        × (now (area .exit) ≡ imageArea (now (file .entry)) (now (area .entry))) ⌝ }
+{
+    let found = layout::read(file);
+    match found {
+        Layout::Image {
+            width,
+            height,
+            start,
+        } => {
+            if area.len() < width * height {
+                return ImageRead::Refused(Refusal {
+                    number: verdict::AREA_SHORT,
+                    place: 0,
+                });
+            }
+            unpack::image(&file[start..], width, height, area);
+            ImageRead::Size { width, height }
+        }
+        Layout::Refused(refusal) => ImageRead::Refused(refusal),
+    }
+}
+
+// Judges pixel bytes as the writer does: 10, 11 (the count of bytes), 12 (a byte above 1, at its row).
+pub fn check_pixels(width: usize, height: usize, pixels: &[u8]) -> Verdict
+    ensures { λ r. ⌜ r ≡ pixelVerdict width height (now (pixels .entry)) ⌝ }
+{
+    if size::is_bad(width, height) {
+        return refused(verdict::SIZE_RANGE);
+    }
+    if pixels.len() != width * height {
+        return refused(verdict::RASTER_LENGTH);
+    }
+    pixels::check_values(pixels, width, height)
+}
+
+fn refused(number: u32) -> Verdict
+    ensures { λ r. ⌜ r ≡ Verdict.Refused (refusal number 0) ⌝ }
+{
+    Verdict::Refused(Refusal { number, place: 0 })
+}
+
+// Writes the file of an image to the front of an output: 10, 11, 12, then 13. All is judged before the first byte is stored.
+pub fn write(width: usize, height: usize, pixels: &[u8], out: &mut [u8]) -> Written
+    ensures { λ r. ⌜ (r ≡ imageWritten width height (now (pixels .entry)) (length (now (out .entry))))
+        × (now (out .exit) ≡ imageOutput width height (now (pixels .entry)) (now (out .entry))) ⌝ }
+{
+    let checked = check_pixels(width, height, pixels);
+    match checked {
+        Verdict::Accepted => {
+            let start = header::length_of(width, height);
+            let end = start + size::row_bytes(width) * height;
+            if out.len() < end {
+                return Written::Refused(Refusal {
+                    number: verdict::AREA_SHORT,
+                    place: 0,
+                });
+            }
+            header::write(width, height, out);
+            pack::image(pixels, width, height, out, start);
+            Written::Length(end)
+        }
+        Verdict::Refused(refusal) => Written::Refused(refusal),
+    }
 }

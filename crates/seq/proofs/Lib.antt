@@ -1,2 +1,10 @@
 pub mod Lists
 pub mod Tab
+pub mod Bits
+pub mod Joins
+pub mod Search
+pub mod Tests
+pub mod Grid
+pub mod HighFirst
+pub mod Stores
+pub mod Notes

@@ -1,0 +1,87 @@
+-- Images there and back: the proof of specs/RoundTrip. Assumes nothing.
+use mathlib.Core.Bool.{Bool, true, false, _&&_}
+use mathlib.Core.List.{List, [], _∷_, _++_}
+use mathlib.Core.Path.{_≡_, refl, sym, ap, _∙_}
+use Prim.Native.Nat.{ℕ, zero, suc, _+_, _*_, _<_}
+use native.Mathlib.Omega.{arith}
+use borrow.Author.Tests.{ltb-true}
+use lib.Dec.{ltb}
+use lib.ListN.{length, getD}
+use lib.Pow.{areBytes}
+use lib.Seq.{getD-drop}
+use Rattle.image.specs.File.{rasterPixel, pixelsOf, paddingSet, fileVerdict, pixelVerdict, imageBytes, rowByte}
+use Rattle.image.specs.Header.{raster, widthOf, heightOf, header}
+use Rattle.image.specs.Layout.{Sides, rasterStart}
+use Rattle.image.specs.RoundTrip.{imageOf, ReadBack, ImageRoundTrip}
+use Rattle.image.specs.Size.{rowBytes}
+use Rattle.image.proofs.Accepted.{FileGood, file-good, good-file}
+use Rattle.image.proofs.HeaderBack.{HeaderRead, header-back, header-kept}
+use Rattle.image.proofs.HeaderOf.{raster-place}
+use Rattle.image.proofs.PixelsOf.{PixelsGood, pixels-good, good-pixels}
+use Rattle.image.proofs.RasterBack.{rows, rows-clean, rows-back, raster-kept, pixels-small}
+use Rattle.image.proofs.RowBytes.{sides}
+use Rattle.image.proofs.WriteOf.{binary}
+use Rattle.seq.proofs.Grid.{grid}
+use Rattle.seq.proofs.Lists.{and-left, and-right}
+use Rattle.seq.proofs.Tab.{length-tab, first-none, first-nothing}
+use Rattle.verdict.specs.declared.Verdict.the-variants.{Accepted}
+
+-- bytes are below 256, and past them stands 0
+byte-below : (f : List ℕ) → areBytes f ≡ true → (i : ℕ) → getD f i 0 < 256
+byte-below [] e i = omega arith
+byte-below (b ∷ f) e zero = ltb-true b 256 (and-left (ltb b 256) (areBytes f) e)
+byte-below (b ∷ f) e (suc i) = byte-below f (and-right (ltb b 256) (areBytes f) e) i
+
+raster-below : (f : List ℕ) → areBytes f ≡ true → (i : ℕ) → getD (raster f) i 0 < 256
+raster-below f e i = rw (raster-place f, getD-drop (rasterStart f) f i 0) (byte-below f e (rasterStart f + i))
+
+module _ (w h : ℕ) (px : List ℕ) (g : PixelsGood w h px) where
+  both : Sides w h
+  both = sides w h (g .size)
+
+  read : HeaderRead (imageBytes w h px) w h (rows w h (both .wide) px)
+  unfolding imageBytes
+  read = header-back w h (rows w h (both .wide) px) (omega (arith, both)) (omega (arith, both))
+
+  written-good : FileGood (imageBytes w h px)
+  written-good = record {
+    form = read .form;
+    size = rw (read .width, read .height) (g .size);
+    count = rw (read .rest, read .width, read .height) (length-tab (grid (rowBytes w) (rowByte w px)) (rowBytes w * h));
+    clean = rw (read .rest, read .width, read .height) (first-none (paddingSet w (rows w h (both .wide) px)) h (rows-clean w h (both .wide) px));
+  }
+
+  back : ReadBack w h px
+  unfolding imageOf
+  back = record {
+    accepted = good-file (imageBytes w h px) written-good;
+    width = read .width;
+    height = read .height;
+    pixels = rw (read .rest, read .width, read .height) (rows-back w h (both .wide) px (binary g) (g .count));
+  }
+
+module _ (f : List ℕ) (g : FileGood f) where
+  file-sides : Sides (widthOf f) (heightOf f)
+  file-sides = sides (widthOf f) (heightOf f) (g .size)
+
+  kept : areBytes f ≡ true → imageBytes (widthOf f) (heightOf f) (imageOf f) ≡ f
+  unfolding imageOf imageBytes
+  kept e =
+      let clean = first-nothing (paddingSet (widthOf f) (raster f)) (heightOf f) (g .clean) in
+      let same = raster-kept (widthOf f) (heightOf f) (file-sides .wide) (raster f) clean (g .count) (raster-below f e) in
+      ap (λ (r : List ℕ). header (widthOf f) (heightOf f) ++ r) same ∙ header-kept f (g .form)
+
+  checked : PixelsGood (widthOf f) (heightOf f) (imageOf f)
+  unfolding imageOf pixelsOf
+  checked = record {
+    size = g .size;
+    count = length-tab (grid (widthOf f) (rasterPixel (widthOf f) (raster f))) (widthOf f * heightOf f);
+    small = pixels-small (widthOf f) (heightOf f) (file-sides .wide) (raster f);
+  }
+
+pub image-round-trip : ImageRoundTrip
+image-round-trip = record {
+  image-back = λ w h px e. back w h px (pixels-good w h px e);
+  file-back = λ f b e. kept f (file-good f e) b;
+  read-checked = λ f e. good-pixels _ _ _ (checked f (file-good f e));
+}

@@ -1,0 +1,34 @@
+-- The laws of sizes and of the bytes of a row.
+--     row-bytes-fit     they hold the row's pixels, with fewer than eight bits to spare
+--     product-small     a product of two numbers up to the limit
+--     sides             what a size that rule 10 lets pass is
+-- Assumes nothing.
+use mathlib.Core.Bool.{true, false, _&&_}
+use mathlib.Core.Path.{_≡_}
+use Prim.Native.Nat.{ℕ, _+_, _*_, _≤_, _<_}
+use native.Mathlib.Nat.{mul-le-mul}
+use native.Mathlib.Omega.{arith}
+use borrow.Author.Tests.{leb-true, not-false}
+use lib.Dec.{leb}
+use Rattle.image.specs.Layout.{Sides}
+use Rattle.image.specs.Size.{maxSide, within, badSize, rowBytes}
+use Rattle.seq.proofs.Lists.{and-left, and-right}
+
+pub row-bytes-fit : (w : ℕ) → (w ≤ 8 * rowBytes w) × (8 * rowBytes w < w + 8)
+unfolding rowBytes
+row-bytes-fit w = omega arith
+
+pub product-small : {a b : ℕ} → a ≤ maxSide → b ≤ maxSide → a * b ≤ 65536
+product-small p q = mul-le-mul p q
+
+within-range : (n : ℕ) → within maxSide n ≡ true → (1 ≤ n) × (n ≤ maxSide)
+unfolding within
+within-range n e = (leb-true 1 n (and-left (leb 1 n) (leb n maxSide) e), leb-true n maxSide (and-right (leb 1 n) (leb n maxSide) e))
+
+pub sides : (w h : ℕ) → badSize w h ≡ false → Sides w h
+unfolding badSize
+sides w h e =
+    let both = not-false (within maxSide w && within maxSide h) e in
+    let p = within-range w (and-left (within maxSide w) (within maxSide h) both) in
+    let q = within-range h (and-right (within maxSide w) (within maxSide h) both) in
+    record { wide = p .0; narrow = p .1; tall = q .0; short = q .1 }

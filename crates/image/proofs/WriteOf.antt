@@ -1,0 +1,74 @@
+-- What the writer answers and leaves in the output, from the verdict on the pixels.
+--     bytes-length      the length of the file of an image
+--     binary            accepted pixels are 0 or 1
+--     write-refused, write-short, write-filled     the pixels are refused; the output is too short; the output is filled
+-- Assumes nothing.
+use mathlib.Core.List.{List, _++_}
+use mathlib.Core.Logic.{⊎-elim}
+use mathlib.Core.Path.{_≡_, refl, sym, ap, _∙_}
+use Prim.Native.Nat.{ℕ, _+_, _*_, _≤_, _<_}
+use native.Mathlib.Nat.{zero-add}
+use native.Mathlib.Omega.{arith}
+use borrow.Author.Tests.{lt-ltb, le-ltb, ltb-true, ltb-false}
+use lib.Dec.{ltb}
+use lib.ListN.{length, getD, length-append, List·getD-eq-default}
+use lib.Seq.{sets}
+use Rattle.image.specs.File.{pixelVerdict, rowByte, imageBytes, writeVerdict, imageWritten, imageOutput}
+use Rattle.image.specs.Header.{header}
+use Rattle.image.specs.Layout.{Binary}
+use Rattle.image.specs.Size.{rowBytes}
+use Rattle.image.proofs.PixelsOf.{PixelsGood}
+use Rattle.seq.proofs.Grid.{grid}
+use Rattle.seq.proofs.Lists.{either}
+use Rattle.seq.proofs.Stores.{sets-append, sets-front}
+use Rattle.seq.proofs.Tab.{length-tab}
+use Rattle.seq.specs.Tab.{tab}
+use Rattle.verdict.specs.declared.Refusal.{Refusal}
+use Rattle.verdict.specs.declared.Verdict.the-variants.{Accepted, Refused}
+use Rattle.verdict.specs.declared.Written.the-variants as written
+use Rattle.verdict.specs.Rules.{refusal}
+use Rattle.verdict.specs.Writer.{over}
+
+module _ (w h : ℕ) (px : List ℕ) where
+  -- the rows of the file
+  abbrev raster : List ℕ
+  raster = tab (grid (rowBytes w) (rowByte w px)) (rowBytes w * h)
+
+  pub bytes-length : length (imageBytes w h px) ≡ length (header w h) + rowBytes w * h
+  unfolding imageBytes
+  bytes-length = length-append (header w h) raster ∙ ap (λ (n : ℕ). length (header w h) + n) (length-tab (grid (rowBytes w) (rowByte w px)) (rowBytes w * h))
+
+  pub write-refused : {r : Refusal} → pixelVerdict w h px ≡ Refused r → (out : List ℕ)
+      → (written.Refused r ≡ imageWritten w h px (length out)) × (out ≡ imageOutput w h px out)
+  unfolding imageWritten imageOutput writeVerdict
+  write-refused e out = (simp e, simp e)
+
+  module _ (good : pixelVerdict w h px ≡ Accepted) (out : List ℕ) {end : ℕ} (size : end ≡ length (header w h) + rowBytes w * h) where
+    pub write-short : length out < end → (written.Refused (refusal 13 0) ≡ imageWritten w h px (length out)) × (out ≡ imageOutput w h px out)
+    unfolding imageWritten imageOutput writeVerdict
+    write-short l = let s = lt-ltb (length out) (length (imageBytes w h px)) (omega (arith, bytes-length)) in (simp (good, s), simp (good, s))
+
+    -- header and rows are one run of stores from the front
+    filled : {l l′ : List ℕ} {start : ℕ} → end ≤ length out → l ≡ sets out 0 (header w h) → start ≡ length (header w h) → l′ ≡ sets l start raster
+        → l′ ≡ over (imageBytes w h px) out
+    unfolding imageBytes over
+    filled fits e q r =
+        r
+        ∙ rw (e, q, ← zero-add (length (header w h))) (sets-append (header w h) raster out 0)
+        ∙ sets-front (header w h ++ raster) out (omega (arith, bytes-length))
+
+    pub write-filled : {l l′ : List ℕ} {start : ℕ} → end ≤ length out → l ≡ sets out 0 (header w h) → start ≡ length (header w h) → l′ ≡ sets l start raster
+        → (written.Length end ≡ imageWritten w h px (length out)) × (l′ ≡ imageOutput w h px out)
+    unfolding imageWritten imageOutput writeVerdict
+    write-filled fits e q r =
+        let s = le-ltb (length out) (length (imageBytes w h px)) (omega (arith, bytes-length)) in
+        (ap written.Length (size ∙ sym bytes-length) ∙ simp (good, s), filled fits e q r ∙ simp (good, s))
+
+-- past the pixels stands 0
+pub binary : {w h : ℕ} {px : List ℕ} → PixelsGood w h px → Binary px
+binary {w} {h} {px} g = record {
+  small = λ i. ⊎-elim (λ e. g .small i (ltb-true i (w * h) e)) (λ e. past i (ltb-false i (w * h) e)) (either (ltb i (w * h)));
+}
+  where
+    past : (i : ℕ) → w * h ≤ i → getD px i 0 ≤ 1
+    past i l = omega (arith, List·getD-eq-default px 0 {n = i} (omega (arith, g .count)))

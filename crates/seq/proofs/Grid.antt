@@ -1,0 +1,87 @@
+-- A grid of rows of w cells, laid out row by row: the cell at row r and column c < w has the index r · w + c.
+--     grid w g                 the table of g at row and column, as a function of the index
+--     grid-at                  at the index r · w + c it is g r c
+--     cell-below, row-below    a cell and a whole row of h rows lie below w · h
+--     grid-row                 the rows before r, and row r, are the rows before r + 1
+--     fill-cell, fill-row      a list that is filled row by row: one cell more, one row more
+--     stored-row               the same for a run of stores that starts anywhere
+--     rowPasses, first-rows    some cell of a row passes a test; the row of the first index that passes a test is the first row in which one passes
+-- The step to the next column is r · w + c + 1 ≡ r · w + (c + 1), to the next row r · w + w ≡ (r + 1) · w: `omega` has both.
+-- Assumes nothing.
+use mathlib.Core.Bool.{Bool, true, false}
+use mathlib.Core.List.{List, [], _∷_, _++_}
+use mathlib.Core.Option.{Option, none, some, Option·map}
+use mathlib.Core.Path.{_≡_, refl, sym, ap, ap₂, _∙_}
+use Prim.Native.Nat.{ℕ, zero, suc, _+_, _*_, _/_, _%_, _≤_, _<_}
+use native.Mathlib.Nat.{zero-mul, mul-comm, mul-le-mul-right, div-lt-iff-lt-mul, mod-lt, div-add-mod'}
+use native.Mathlib.Omega.{arith}
+use lib.Arith.{digits-div, digits-mod, digits-lt}
+use lib.ListN.{length, set}
+use lib.Seq.{sets}
+use Rattle.seq.specs.Lists.{isSome}
+use Rattle.seq.specs.Tab.{tab, first, Filled}
+use Rattle.seq.proofs.Notes.{first-some}
+use Rattle.seq.proofs.Stores.{tab-add, Stored, stored-run, fill-run}
+use Rattle.seq.proofs.Tab.{tab-ext, fill-more, first-at, first-none, first-found, first-nothing, Found}
+
+abbrev pub grid {ℓ} : {A : Type ℓ} → ℕ → (ℕ → ℕ → A) → ℕ → A
+grid w g i = g (i / w) (i % w)
+
+pub next-row : (r w : ℕ) → r * w + w ≡ (r + 1) * w
+next-row r w = omega arith
+
+pub cell-below : {r h w c : ℕ} → r < h → c < w → r * w + c < w * h
+cell-below {r} {h} {w} {c} p q = omega (arith, digits-lt p q, mul-comm w h)
+
+pub row-below : {r h : ℕ} (w : ℕ) → r < h → (r + 1) * w ≤ w * h
+row-below {r} {h} w p = let q : r + 1 ≤ h = omega arith in omega (arith, mul-le-mul-right w q, mul-comm w h)
+
+module _ {ℓ} {A : Type ℓ} (w : ℕ) (g : ℕ → ℕ → A) where
+  pub grid-at : (r c : ℕ) → c < w → grid w g (r * w + c) ≡ g r c
+  grid-at r c h = ap₂ g (digits-div r h) (digits-mod r h)
+
+  pub grid-row : (r : ℕ) → tab (grid w g) ((r + 1) * w) ≡ tab (grid w g) (r * w) ++ tab (g r) w
+  grid-row r =
+      ap (tab (grid w g)) (sym (next-row r w))
+      ∙ tab-add (grid w g) (r * w) w
+      ∙ ap (λ (t : List A). tab (grid w g) (r * w) ++ t) (tab-ext (λ c. grid w g (r * w + c)) (g r) w (grid-at r))
+
+  pub fill-cell : {d l : List A} {a : A} (r c : ℕ) → Filled (grid w g) d l (r * w + c) → c < w → r * w + c < length d → a ≡ g r c
+      → Filled (grid w g) d (set l (r * w + c) a) (r * w + c + 1)
+  fill-cell r c f h b e = fill-more f b (e ∙ sym (grid-at r c h))
+
+  pub fill-row : {d l l′ : List A} (r : ℕ) → Filled (grid w g) d l (r * w) → (r + 1) * w ≤ length d → l′ ≡ sets l (r * w) (tab (g r) w)
+      → Filled (grid w g) d l′ ((r + 1) * w)
+  fill-row r f h e = rw (← next-row r w) (fill-run (g r) w f (rw (next-row r w) h) (λ c b. sym (grid-at r c b)) e)
+
+  pub stored-row : {d l l′ : List A} {i : ℕ} (r : ℕ) → Stored (grid w g) d i l (r * w) → l′ ≡ sets l (i + r * w) (tab (g r) w)
+      → Stored (grid w g) d i l′ ((r + 1) * w)
+  stored-row r s e = rw (← next-row r w) (stored-run (g r) w s (λ c b. sym (grid-at r c b)) e)
+
+-- a product that is above some number has a first factor above 0
+factor-pos : (i w h : ℕ) → i < w * h → 0 < w
+factor-pos i zero h p = omega (arith, zero-mul h)
+factor-pos i (suc w) h p = omega arith
+
+-- some cell of row r passes the test of its index
+abbrev pub rowPasses : (ℕ → Bool) → ℕ → ℕ → Bool
+rowPasses p w r = isSome (first (λ c. p (r * w + c)) w)
+
+-- no index below r · w passes, so no row before r has one that does
+rows-none : (p : ℕ → Bool) (w r : ℕ) → ((i : ℕ) → i < r * w → p i ≡ false) → (k : ℕ) → k < r → rowPasses p w k ≡ false
+rows-none p w r none-below k b =
+    ap isSome (first-none (λ c. p (k * w + c)) w (λ c q. none-below (k * w + c) (digits-lt b q)))
+
+pub first-rows : (p : ℕ → Bool) (w h : ℕ) → Option·map (λ i. i / w) (first p (w * h)) ≡ first (rowPasses p w) h
+first-rows p w h = step (first p (w * h)) refl
+  where
+    at : (i : ℕ) → Found p (w * h) i → 0 < w → first (rowPasses p w) h ≡ some (i / w)
+    at i f pos =
+        let split : i / w * w + i % w ≡ i = div-add-mod' i w in
+        first-at (rowPasses p w) h (i / w) (div-lt-iff-lt-mul pos .1 (omega (arith, f .below, mul-comm w h)))
+        (rows-none p w (i / w) (λ k b. f .lowest k (omega arith)))
+        (first-some (λ c. p (i / w * w + c)) w (mod-lt i pos) (rw split (f .passes)))
+
+    step : (o : Option ℕ) → first p (w * h) ≡ o → Option·map (λ i. i / w) o ≡ first (rowPasses p w) h
+    step none e = sym (first-none (rowPasses p w) h (rows-none p w h (λ i b. first-nothing p (w * h) e i (rw (mul-comm w h) b))))
+    step (some i) e = let f = first-found p (w * h) i e in sym (at i f (factor-pos i w h (f .below)))

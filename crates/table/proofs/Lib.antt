@@ -1,0 +1,15 @@
+pub mod Bytes
+pub mod Cursor
+pub mod Fewest
+pub mod FileBack
+pub mod Files
+pub mod Groups
+pub mod Judging
+pub mod Outputs
+pub mod Places
+pub mod Positions
+pub mod RecordBack
+pub mod RoundTrip
+pub mod Steps
+pub mod Tables
+pub mod Verdicts

@@ -1,0 +1,54 @@
+-- `record::first_bad_place` meets its contract: a search over the places.
+-- Assumes nothing.
+use mathlib.Core.Path.{sym, _∙_}
+use Prim.Native.Nat.{_-_}
+use native.Mathlib.Omega.{arith}
+use borrow.Author.Needs.{needs}
+use Rattle.seq.proofs.Search.{Passed, passed-none, passed-more, passed-found, passed-all}
+use Rattle.table.specs.Record.{badPlace}
+use Rattle.table.specs.Search.{lowestBad}
+use Rattle.table.proofs.record.first_bad_place.Statement.{statement}
+use Rattle.table.proofs.record.first_bad_place.Tie as tie
+
+abbrev Inv-loop : tie.InvT-loop
+Inv-loop table k₀ k = Passed (badPlace table) 64 k
+
+abbrev μ-loop : tie.MeasureT-loop
+μ-loop table k₀ k = 64 - k
+
+loop-holds : tie.Need-loop-holds Inv-loop μ-loop
+loop-holds c = passed-none
+
+bad-place-requires : tie.Need-bad-place-requires Inv-loop μ-loop
+bad-place-requires c κs = search needs
+
+returns : tie.Need-returns Inv-loop μ-loop
+unfolding lowestBad
+returns c = passed-found (c .before .before .before .loop .inv) (c .before .before .loop-test .taken) (sym (c .before .bad-place .ensures) ∙ c .if1 .taken)
+
+add-k : tie.Need-add-k Inv-loop μ-loop
+add-k c = search needs
+
+loop-less : tie.Need-loop-less Inv-loop μ-loop
+loop-less c = omega arith
+
+loop-again : tie.Need-loop-again Inv-loop μ-loop
+loop-again c = passed-more (c .before .before .before .loop .inv) (c .before .before .loop-test .taken) (sym (c .before .bad-place .ensures) ∙ c .if1 .left)
+
+returns-2 : tie.Need-returns-2 Inv-loop μ-loop
+unfolding lowestBad
+returns-2 c = passed-all (c .before .loop .inv) (c .loop-test .left)
+
+pub first-bad-place-spec : {M : Type 1} → statement M
+first-bad-place-spec =
+    tie.close
+    (tie.spec
+    Inv-loop
+    μ-loop
+    loop-holds
+    bad-place-requires
+    returns
+    add-k
+    loop-less
+    loop-again
+    returns-2)

@@ -1,0 +1,33 @@
+-- `writing::write_checked` meets its contract.
+-- Assumes nothing.
+use mathlib.Core.Path.{ap, _∙_}
+use Prim.Native.Nat.{ℕ}
+use native.Mathlib.Omega.{arith}
+use borrow.Author.Needs.{needs}
+use Rattle.table.proofs.Outputs.{accepted-count, short-output, whole-output}
+use Rattle.verdict.specs.declared.Written.the-variants.{Length}
+use Rattle.table.proofs.writing.write_checked.Statement.{statement}
+use Rattle.table.proofs.writing.write_checked.Tie as tie
+
+file-length-requires : tie.Need-file-length-requires
+file-length-requires c κs = accepted-count _ (c .before .pre)
+
+returns : tie.Need-returns
+returns c = short-output _ _ (c .before .before .before .pre) (omega arith)
+
+put-table-requires : tie.Need-put-table-requires
+put-table-requires c κs = (accepted-count _ (c .before .before .before .before .pre), omega arith)
+
+same-length : tie.Need-same-length
+same-length c = search needs
+
+returns-2 : tie.Need-returns-2
+returns-2 c =
+    let start = c .before .before .before .before .before .before .before in
+    let size = c .before .before .before .before .before .file-length .ensures in
+    let w = whole-output (start .args .table) (start .args .out .now) (start .pre) (omega (arith, c .before .before .before .before .if1)) in
+    (ap (λ (n : ℕ). Length n) size ∙ w .0, c .before .before .put-table .ensures ∙ w .1)
+
+pub write-checked-spec : {M : Type 1} → statement M
+write-checked-spec =
+    tie.close (tie.spec file-length-requires returns put-table-requires same-length returns-2)

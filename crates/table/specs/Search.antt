@@ -1,0 +1,30 @@
+-- What the private functions of the record check answer.
+--     found s            a search's answer
+--     badNumber n        n is no count of elements
+--     lowestBad t        the lowest place of the record that breaks rule 4
+--     badAfter b e       rule 4 on the element e after the element b, 0 where there is none
+-- Assumes nothing.
+use mathlib.Core.Bool.{Bool, not, _&&_, _||_}
+use mathlib.Core.Option.{Option, none, some}
+use Prim.Native.Nat.{ℕ}
+use lib.Dec.{leb}
+use Rattle.seq.specs.Bits.{bit}
+use Rattle.seq.specs.Tab.{first}
+use Rattle.table.specs.declared.Table.{Table}
+use Rattle.table.specs.declared.mask.Search.{Search}
+use Rattle.table.specs.declared.mask.Search.the-variants.{Found, Nothing}
+use Rattle.table.specs.Mask.{centre, validMask}
+use Rattle.table.specs.Record.{maxElements, badPlace}
+
+abbrev pub found : Search → Option ℕ
+found (Found k) = some k
+found Nothing = none
+
+unfoldable pub badNumber : ℕ → Bool
+badNumber n = not (leb 1 n && leb n maxElements)
+
+unfoldable pub badAfter : ℕ → ℕ → Bool
+badAfter b e = not (validMask e) || (bit e centre || leb e b)
+
+unfoldable pub lowestBad : Table → Option ℕ
+lowestBad t = first (badPlace t) maxElements
