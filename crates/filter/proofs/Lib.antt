@@ -14,3 +14,16 @@ pub mod Order
 pub mod Rest
 pub mod Heijmans
 pub mod Kept
+pub mod WindowLaws
+pub mod PreviewPlain
+pub mod PassCodeExact
+pub mod PassCodeChecks
+pub mod PassCodeApplied
+pub mod PreviewLaws
+pub mod PassCodeSizes
+pub mod PassCodeWalk
+pub mod ElementsLaws
+pub mod OpeningCodes
+pub mod OpeningMap
+pub mod OpeningFrame
+pub mod OpeningErosion

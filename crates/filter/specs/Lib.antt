@@ -12,3 +12,6 @@ pub mod Heijmans
 pub mod OpeningMap
 pub mod Applied
 pub mod Cases
+pub mod Erosion
+pub mod Elements
+pub mod Walk

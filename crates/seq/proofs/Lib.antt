@@ -8,3 +8,5 @@ pub mod Grid
 pub mod HighFirst
 pub mod Stores
 pub mod Notes
+pub mod Loops
+pub mod Rows

@@ -1,0 +1,95 @@
+-- The element test: a window as a mask, and elements against it.
+--     bits-tab              a number made of a table of truth values has them as its bits
+--     mask-bits             the rows' bits, one row above the other, are those of the window
+--     any-stop, any-more, any-end    a loop that looks for the first that passes: what is left decides
+--     all-stop, all-more, all-end    for the first that fails
+--     matched-within        elements against the mask of a window
+--     matched-none          no valid element fits into the empty mask
+-- Assumes nothing.
+use mathlib.Core.Bool.{Bool, true, false}
+use mathlib.Core.List.{List, [], _∷_, List·Memᴰ}
+use mathlib.Core.Path.{_≡_, refl, sym, ap, _∙_}
+use Prim.Native.Nat.{ℕ, zero, suc, _+_, _*_, _/_, _%_, _^_, _≤_, _<_}
+use native.Mathlib.Nat.{not-suc-le-zero, le-of-suc-le-suc, div-one}
+use native.Mathlib.Numerals.{add-one}
+use native.Mathlib.Omega.{arith}
+use borrow.Author.Tests.{ne-eqb}
+use lib.Bits.{bitAnd, and-zero-r}
+use lib.Dec.{eqb}
+use lib.ListN.{length, getD, drop, drop-of-length-le}
+use lib.Seq.{drop-cons}
+use Rattle.seq.specs.Bits.{bit, bitsOf}
+use Rattle.seq.specs.Lists.{any, all, one}
+use Rattle.seq.specs.Tab.{tab}
+use Rattle.seq.proofs.Bits.{bit-half, bit-one, bit-none, all-and}
+use Rattle.seq.proofs.Lists.{one-le, or-left, any-ext, any-none, all-elim}
+use Rattle.seq.proofs.Tests.{between}
+use Rattle.table.specs.Mask.{largestMask, positions, validMask}
+use Rattle.filter.specs.Elements.{matched}
+use Rattle.filter.specs.Preview.{fromBits}
+use Rattle.filter.specs.Window.{windowAt}
+
+-- the lowest bit of b + 2 · x is b
+bit-first : (b : Bool) (x : ℕ) → bit (one b + 2 * x) 0 ≡ b
+bit-first true x = bit-one (1 + 2 * x) 0 (ap (λ (m : ℕ). m % 2) (div-one (1 + 2 * x)) ∙ omega arith)
+bit-first false x = bit-none (0 + 2 * x) 0 (λ e. omega (arith, ap (λ (m : ℕ). m % 2) (div-one (0 + 2 * x))))
+
+pub bits-tab : (p : ℕ → Bool) (n k : ℕ) → k < n → bit (fromBits (tab (λ i. one (p i)) n)) k ≡ p k
+bits-tab p zero k l = absurd (not-suc-le-zero l)
+bits-tab p (suc n) zero l = bit-first (p zero) (fromBits (tab (λ i. one (p (suc i))) n))
+bits-tab p (suc n) (suc k) l =
+    step (p zero) (fromBits (tab (λ i. one (p (suc i))) n)) ∙ bits-tab (λ i. p (suc i)) n k (le-of-suc-le-suc l)
+  where
+    step : (b : Bool) (x : ℕ) → bit (one b + 2 * x) (suc k) ≡ bit x k
+    step b x = sym (bit-half (one b + 2 * x) k) ∙ ap (λ (m : ℕ). bit m k) (omega (arith, one-le b))
+
+-- a row of the window as five bits
+abbrev pub rowBits : List (List ℕ) → ℕ → ℕ → ℕ
+rowBits win v y = fromBits (tab (λ x. one (eqb (getD (getD win y []) x 0) v)) 5)
+
+-- five rows, each above the one before, are the 25 positions
+pub mask-bits : (win : List (List ℕ)) (v : ℕ) {a b c d e : ℕ} → a ≡ rowBits win v 0 → b ≡ rowBits win v 1 → c ≡ rowBits win v 2 → d ≡ rowBits win v 3
+    → e ≡ rowBits win v 4 → (n : ℕ) → n < 25 → bit (a + 32 * b + 1024 * (c + 32 * (d + 32 * e))) n ≡ eqb (windowAt win n) v
+mask-bits win v {a} {b} {c} {d} {e} ha hb hc hd he n l =
+    ap (λ (m : ℕ). bit m n) whole ∙ bits-tab (λ n. eqb (windowAt win n) v) 25 n l
+  where
+    whole : a + 32 * b + 1024 * (c + 32 * (d + 32 * e)) ≡ fromBits (tab (λ n. one (eqb (windowAt win n) v)) 25)
+    whole = omega arith
+
+module _ {ℓ} {A : Type ℓ} (p : A → Bool) (l : List A) (i : ℕ) where
+  pub any-stop : (d : A) → i < length l → p (getD l i d) ≡ true → any p (drop i l) ≡ true
+  any-stop d h e = ap (any p) (drop-cons l i d h) ∙ or-left (any p (drop (suc i) l)) e
+
+  pub any-more : (d : A) → i < length l → p (getD l i d) ≡ false → any p (drop i l) ≡ any p (drop (i + 1) l)
+  any-more d h e = rw (add-one, drop-cons l i d, e)
+
+  pub any-end : length l ≤ i → any p (drop i l) ≡ false
+  any-end h = ap (any p) (drop-of-length-le l h)
+
+  pub all-stop : (d : A) → i < length l → p (getD l i d) ≡ false → all p (drop i l) ≡ false
+  all-stop d h e = rw (drop-cons l i d, e)
+
+  pub all-more : (d : A) → i < length l → p (getD l i d) ≡ true → all p (drop i l) ≡ all p (drop (i + 1) l)
+  all-more d h e = rw (add-one, drop-cons l i d, e)
+
+  pub all-end : length l ≤ i → all p (drop i l) ≡ true
+  all-end h = ap (all p) (drop-of-length-le l h)
+
+module _ (es : List ℕ) (valid : all validMask es ≡ true) where
+  pub matched-within : (win : List (List ℕ)) (v m : ℕ) → ((n : ℕ) → n < 25 → bit m n ≡ eqb (windowAt win n) v)
+      → matched es win v ≡ any (λ e. eqb (bitAnd e m) e) es
+  unfolding matched positions validMask
+  matched-within win v m h =
+      any-ext (λ e. all (λ n. eqb (windowAt win n) v) (positions e)) (λ e. eqb (bitAnd e m) e) es
+      (λ e i. let r = between 1 e largestMask (all-elim validMask valid i) in
+      all-and (λ n. eqb (windowAt win n) v) 25 e m (omega arith) h)
+
+  -- no valid element fits into the empty mask
+  pub matched-none : (win : List (List ℕ)) (v : ℕ) {m : ℕ} → ((n : ℕ) → n < 25 → bit m n ≡ eqb (windowAt win n) v) → m ≡ 0 → matched es win v ≡ false
+  unfolding validMask
+  matched-none win v {m} h z = matched-within win v m h ∙ any-none (λ e. eqb (bitAnd e m) e) es none
+    where
+      none : (e : ℕ) → List·Memᴰ e es → eqb (bitAnd e m) e ≡ false
+      none e i =
+          let r = between 1 e largestMask (all-elim validMask valid i) in
+          ne-eqb (bitAnd e m) e (λ q. omega (arith, ap (bitAnd e) z, and-zero-r e))

@@ -1,0 +1,111 @@
+-- What a pass checks before it starts.
+--     most-above, most-below     the largest pixel so far, and one pixel more
+--     ranged-of, ranged-count, ranged-valid    the table's ranges
+--     accepted-ranged            an accepted table is in range
+--     elements-part, map-part, map-length    elements and opening map, as parts of longer arrays
+-- Assumes nothing.
+use mathlib.Core.Bool.{Bool, true, false, not, _&&_, and-false}
+use mathlib.Core.List.{List, [], _∷_, List·Memᴰ, List·Memᴰ·head, List·Memᴰ·tail}
+use mathlib.Core.Path.{_≡_, refl, sym, ap, _∙_, subst}
+use Prim.Native.Nat.{ℕ, suc, _+_, _*_, _≤_, _<_}
+use native.Mathlib.Numerals.{add-one}
+use native.Mathlib.Omega.{arith}
+use borrow.Author.Tests.{leb-true, leb-false, le-leb, lt-leb, lt-ltb, not-false}
+use lib.Dec.{leb}
+use lib.ListN.{length, getD, take, drop}
+use lib.Seq.{drop-cons, take-at}
+use Rattle.seq.specs.Lists.{all}
+use Rattle.seq.specs.Tab.{first}
+use Rattle.seq.proofs.Lists.{and-left, and-right, and-intro, all-intro}
+use Rattle.seq.proofs.Tab.{length-tab, first-nothing}
+use Rattle.seq.proofs.Tests.{or-none-left}
+use Rattle.table.specs.declared.Table.{Table}
+use Rattle.table.specs.Mask.{validMask}
+use Rattle.table.specs.Record.{maxElements, element, masks, badCount, badElement, badPlace, countRule, persistentRule, meetRule, persistRule, recordVerdict}
+use Rattle.verdict.specs.declared.Verdict.{Verdict}
+use Rattle.verdict.specs.declared.Verdict.the-variants.{Accepted}
+use Rattle.verdict.specs.Rules.{refuseAt}
+use Rattle.verdict.proofs.Rules.{judge-accepted, refuseIf-accepted, refuseAt-accepted}
+use Rattle.verdict.specs.Writer.{over}
+use Rattle.filter.specs.OpeningMap.{openMap}
+use Rattle.filter.specs.Walk.{ranged}
+use Rattle.filter.proofs.Lists.{take-place}
+
+module _ (l : List ℕ) (i m : ℕ) (h : i < length l) where
+  abbrev binary : List ℕ → Bool
+  binary k = all (λ v. leb v 1) k
+
+  next : (leb m 1 && binary (drop i l)) ≡ (leb m 1 && (leb (getD l i 0) 1 && binary (drop (i + 1) l)))
+  next = rw (add-one, drop-cons l i 0)
+
+  -- a pixel above the largest so far is the largest
+  pub most-above : {n : ℕ} → m < getD l i 0 → n ≡ getD l i 0 → (leb m 1 && binary (drop i l)) ≡ (leb n 1 && binary (drop (i + 1) l))
+  most-above {n} a e = next ∙ rw e (step (leb (getD l i 0) 1) refl)
+    where
+      step : (b : Bool) → leb (getD l i 0) 1 ≡ b → (leb m 1 && (b && binary (drop (i + 1) l))) ≡ (b && binary (drop (i + 1) l))
+      step true q = simp (le-leb m 1 (omega (arith, leb-true)))
+      step false q = and-false (leb m 1)
+
+  -- after another the largest is the same
+  pub most-below : {n : ℕ} → getD l i 0 ≤ m → n ≡ m → (leb m 1 && binary (drop i l)) ≡ (leb n 1 && binary (drop (i + 1) l))
+  most-below {n} a e = next ∙ rw e (step (leb m 1) refl)
+    where
+      step : (b : Bool) → leb m 1 ≡ b → (b && (leb (getD l i 0) 1 && binary (drop (i + 1) l))) ≡ (b && binary (drop (i + 1) l))
+      step true q = simp (le-leb (getD l i 0) 1 (omega (arith, leb-true)))
+      step false q = refl
+
+-- the table's ranges, from its count and its element places
+pub ranged-of : (t : Table) {es : List ℕ} {b : Bool} → t .count ≤ 64 → es ≡ t .elements → b ≡ all validMask (take (t .count) es) → b ≡ ranged t
+unfolding ranged masks
+ranged-of t l e q = q ∙ simp (le-leb (t .count) maxElements l, e)
+
+pub ranged-count : (t : Table) → ranged t ≡ true → t .count ≤ 64
+unfolding ranged
+ranged-count t e = leb-true (t .count) maxElements (and-left (leb (t .count) maxElements) (all validMask (masks t)) e)
+
+pub ranged-valid : (t : Table) → ranged t ≡ true → all validMask (masks t) ≡ true
+unfolding ranged
+ranged-valid t e = and-right (leb (t .count) maxElements) (all validMask (masks t)) e
+
+-- the rules of a record
+abbrev rules : Table → List Verdict
+rules t = countRule t ∷ refuseAt (first (badPlace t) maxElements) 4 suc ∷ persistentRule t ∷ meetRule t ∷ persistRule t ∷ []
+
+module _ (t : Table) (ok : recordVerdict t ≡ Accepted) where
+  rule : (v : Verdict) → List·Memᴰ v (rules t) → v ≡ Accepted
+  unfolding recordVerdict
+  rule v i = judge-accepted {vs = rules t} ok i
+
+  -- rule 3
+  counted : leb (t .count) maxElements ≡ true
+  unfolding badCount
+  counted = and-right (leb 1 (t .count)) _ (not-false _ (refuseIf-accepted (badCount t) 3 0 (rule (countRule t) (List·Memᴰ·head refl))))
+
+  -- rule 4
+  place-valid : (k : ℕ) → k < t .count → validMask (element t k) ≡ true
+  unfolding badPlace badElement
+  place-valid k l =
+      let none = refuseAt-accepted _ 4 suc (rule (refuseAt (first (badPlace t) maxElements) 4 suc) (List·Memᴰ·tail (List·Memᴰ·head refl))) in
+      let good = first-nothing (badPlace t) maxElements none k (omega (arith, leb-true (t .count) maxElements counted)) in
+      not-false _ (or-none-left (not (validMask (element t k))) _ (rw (lt-ltb k (t .count) l) at good))
+
+  pub accepted-ranged : ranged t ≡ true
+  unfolding ranged masks
+  accepted-ranged = and-intro counted (all-intro validMask (masks t) valid)
+    where
+      valid : (e : ℕ) → List·Memᴰ e (masks t) → validMask e ≡ true
+      valid e i = let (k, l, q) = take-place (t .count) (t .elements) 0 i in subst (λ (x : ℕ). validMask x ≡ true) (sym q) (place-valid k l)
+
+-- the elements, as a part of the element places
+pub elements-part : (t : Table) {es : List ℕ} → es ≡ t .elements → take (t .count) es ≡ masks t
+unfolding masks
+elements-part t e = ap (take (t .count)) e
+
+-- the part of an area that the opening map takes
+pub map-part : (t : Table) (w h : ℕ) (img d : List ℕ) {l : List ℕ} → l ≡ over (openMap t w h img) d → take (w * h) l ≡ openMap t w h img
+unfolding over openMap
+map-part t w h img d e = ap (take (w * h)) e ∙ take-at _ _ (w * h) (length-tab _ (w * h))
+
+pub map-length : (t : Table) (w h : ℕ) (img : List ℕ) → length (openMap t w h img) ≡ w * h
+unfolding openMap
+map-length t w h img = length-tab _ (w * h)

@@ -1,0 +1,71 @@
+-- `opening::erode` meets its contract. The invariant: each translate's code is the and of the positions before b.
+-- Assumes nothing.
+use mathlib.Core.Logic.{⊎-elim}
+use mathlib.Core.Path.{_≡_, refl, _∙_, sym}
+use Prim.Native.Nat.{_≤_, _-_}
+use native.Mathlib.Omega.{arith}
+use borrow.Author.Needs.{needs}
+use lib.ListN.{length}
+use Rattle.seq.specs.Bits.{bitsOf}
+use Rattle.filter.specs.Erosion.{places, eroded, Coded}
+use Rattle.filter.proofs.OpeningErosion.{all-positions, erode-none, erode-set, erode-clear}
+use Rattle.filter.proofs.opening.erode.Statement.{statement}
+use Rattle.filter.proofs.opening.erode.Tie as tie
+
+abbrev Inv-loop : tie.InvT-loop
+Inv-loop mask step reach framed out₀ b₀ out b = Coded (eroded (bitsOf b mask) step framed) out 0 reach × (b ≤ places) × (length out ≡ length out₀)
+
+abbrev μ-loop : tie.MeasureT-loop
+μ-loop mask step reach framed out₀ b₀ out b = places - b
+
+fill-requires : tie.Need-fill-requires Inv-loop μ-loop
+fill-requires c κs = search needs
+
+loop-holds : tie.Need-loop-holds Inv-loop μ-loop
+loop-holds c = (erode-none _ _ _ (c .before .before .fill .ensures), omega arith, refl)
+
+has-requires : tie.Need-has-requires Inv-loop μ-loop
+has-requires c κs = search needs
+
+shift-of-requires : tie.Need-shift-of-requires Inv-loop μ-loop
+shift-of-requires c κs = search needs
+
+meet-requires : tie.Need-meet-requires Inv-loop μ-loop
+meet-requires c κs = search needs
+
+add-b : tie.Need-add-b Inv-loop μ-loop
+add-b c = search needs
+
+loop-less : tie.Need-loop-less Inv-loop μ-loop
+loop-less c = search needs
+
+loop-again : tie.Need-loop-again Inv-loop μ-loop
+loop-again c =
+    let loop = c .before .before .before .loop in
+    ⊎-elim
+    (λ w. rw (w .6) (erode-set _ _ _ _ (loop .inv .0) (sym (c .before .has .ensures) ∙ w .0 .taken) (w .1 .ensures .0) (w .3 .ensures), omega arith, w .3 .ensures .long ∙ loop .inv .2))
+    (λ w. rw (w .1) (erode-clear _ _ _ _ (loop .inv .0) (sym (c .before .has .ensures) ∙ w .0 .left), omega arith, loop .inv .2))
+    (c .if1 .came)
+
+same-length : tie.Need-same-length Inv-loop μ-loop
+same-length c = search needs
+
+returns : tie.Need-returns Inv-loop μ-loop
+returns c = rw (all-positions _ (c .before .loop .b) (omega arith)) at (c .before .loop .inv .0)
+
+pub erode-spec : {M : Type 1} → statement M
+erode-spec =
+    tie.close
+    (tie.spec
+    Inv-loop
+    μ-loop
+    fill-requires
+    loop-holds
+    has-requires
+    shift-of-requires
+    meet-requires
+    add-b
+    loop-less
+    loop-again
+    same-length
+    returns)
