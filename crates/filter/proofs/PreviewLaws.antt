@@ -5,14 +5,26 @@
 -- Assumes nothing.
 use mathlib.Core.Bool.{true}
 use mathlib.Core.List.{List, [], _∷_}
-use mathlib.Core.Path.{_≡_}
+use mathlib.Core.Path.{_≡_, refl, subst}
 use Prim.Native.Nat.{ℕ, _+_, _*_, _≤_, _<_}
 use native.Mathlib.Omega.{arith}
+use borrow.Author.Tests.{le-leb, le-ltb, lt-ltb}
 use lib.Dec.{leb, lit<}
-use lib.ListN.{getD}
+use lib.ListN.{length, getD}
 use Rattle.seq.specs.Lists.{all}
-use Rattle.filter.specs.Preview.{fromBits, pattern, fiveOrMore}
+use Rattle.seq.proofs.Tab.{tab-getD}
+use Rattle.image.specs.File.{pixelVerdict}
+use Rattle.image.proofs.PixelsOf.{PixelsGood, pixels-good}
+use Rattle.image.proofs.RowBytes.{pixels-few, sides}
+use Rattle.verdict.specs.declared.Refusal.{Refusal}
+use Rattle.verdict.specs.declared.Verdict.{Verdict}
+use Rattle.verdict.specs.declared.Verdict.the-variants.{Accepted, Refused}
+use Rattle.verdict.specs.Rules.{refusal}
+use Rattle.verdict.specs.Writer.{over}
+use Rattle.filter.specs.Image.{IsImage}
+use Rattle.filter.specs.Preview.{fromBits, pattern, fiveOrMore, preview, previewVerdict, previewArea}
 use Rattle.filter.specs.Window.{siteRow, siteCol, window, windowAt}
+use Rattle.filter.proofs.Lists.{all-tab}
 use Rattle.filter.proofs.WindowLaws.{window-at, binary-at}
 
 -- the answer at a pixel
@@ -36,3 +48,36 @@ pattern-lt w h img r c e =
   where
     bound : (n : ℕ) → n < 25 → windowAt (window w h img r c) n ≤ 1
     bound n l = rw (window-at w h img r c n l) (binary-at img (siteRow h r n * w + siteCol w c n) e)
+
+-- pixels that the image writer accepts are an image
+pub checked-image : (w h : ℕ) (px : List ℕ) → pixelVerdict w h px ≡ Accepted → IsImage w h px
+checked-image w h px e = let s = sides w h (g .size) in record { wide = s .wide; high = s .tall; sized = g .count; binary = binary }
+  where
+    g : PixelsGood w h px
+    g = pixels-good w h px e
+
+    binary : all (λ v. leb v 1) px ≡ true
+    binary =
+        subst (λ (l : List ℕ). all (λ v. leb v 1) l ≡ true) (tab-getD px 0)
+        (all-tab (λ v. leb v 1) (λ k. getD px k 0) (length px) (λ k l. le-leb (getD px k 0) 1 (g .small k (rw (g .count) at l))))
+
+-- and small
+pub checked-area : (w h : ℕ) (px : List ℕ) → pixelVerdict w h px ≡ Accepted → w * h ≤ 65536
+checked-area w h px e = pixels-few (sides w h (pixels-good w h px e .size))
+
+module _ (w h : ℕ) (px d : List ℕ) where
+  abbrev Previewed : Verdict → List ℕ → Type 0
+  Previewed r after = (r ≡ previewVerdict w h px (length d)) × (after ≡ previewArea w h px d)
+
+  pub preview-refused : {x : Refusal} → pixelVerdict w h px ≡ Refused x → Previewed (Refused x) d
+  unfolding previewVerdict previewArea
+  preview-refused e = simp e (refl, refl)
+
+  module _ (ok : pixelVerdict w h px ≡ Accepted) where
+    pub preview-short : length d < w * h → Previewed (Refused (refusal 13 0)) d
+    unfolding previewVerdict previewArea
+    preview-short l = simp (ok, lt-ltb _ _ l) (refl, refl)
+
+    pub preview-filled : {after : List ℕ} → w * h ≤ length d → after ≡ over (preview w h px) d → Previewed Accepted after
+    unfolding previewVerdict previewArea
+    preview-filled l e = simp (ok, le-ltb _ _ l) (refl, e)

@@ -1,5 +1,7 @@
 // The preview (01, One pass): the 3 × 3 median.
 use crate::window;
+use verdict::Refusal;
+use verdict::Verdict;
 ghost use mathlib.Core.Bool.{true};
 ghost use mathlib.Core.List.{[], _∷_};
 ghost use mathlib.Core.Path.{_≡_};
@@ -7,7 +9,7 @@ ghost use Prim.Native.Nat.{_+_, _*_, _≤_, _<_};
 ghost use lib.Dec.{leb};
 ghost use lib.ListN.{length, getD};
 ghost use lib.Seq.{sets};
-ghost use Rattle.filter.specs.Preview.{fromBits, pattern, fiveOrMore, preview};
+ghost use Rattle.filter.specs.Preview.{fromBits, pattern, fiveOrMore, preview, previewVerdict, previewArea};
 ghost use Rattle.filter.specs.Window.{window};
 ghost use Rattle.seq.specs.Lists.{all};
 ghost use Rattle.seq.specs.Tab.{tab};
@@ -31,6 +33,25 @@ const ANSWERS: [u8; 512] =
 \x00\x00\x00\x01\x00\x01\x01\x01\x00\x01\x01\x01\x01\x01\x01\x01\x00\x01\x01\x01\x01\x01\x01\x01\x01\x01\x01\x01\x01\x01\x01\x01\
 \x00\x00\x00\x01\x00\x01\x01\x01\x00\x01\x01\x01\x01\x01\x01\x01\x00\x01\x01\x01\x01\x01\x01\x01\x01\x01\x01\x01\x01\x01\x01\x01\
 \x00\x01\x01\x01\x01\x01\x01\x01\x01\x01\x01\x01\x01\x01\x01\x01\x01\x01\x01\x01\x01\x01\x01\x01\x01\x01\x01\x01\x01\x01\x01\x01";
+
+// Fills the front of the area. Refused as the image writer refuses: 10, 11, 12, then 13.
+pub fn preview(width: usize, height: usize, pixels: &[u8], area: &mut [u8]) -> Verdict
+    ensures { λ r. ⌜ (r ≡ previewVerdict width height (now (pixels .entry)) (length (now (area .entry))))
+        × (now (area .exit) ≡ previewArea width height (now (pixels .entry)) (now (area .entry))) ⌝ }
+{
+    let checked = image::check_pixels(width, height, pixels);
+    if let Verdict::Refused(refusal) = checked {
+        return Verdict::Refused(refusal);
+    }
+    if area.len() < width * height {
+        return Verdict::Refused(Refusal {
+            number: verdict::AREA_SHORT,
+            place: 0,
+        });
+    }
+    fill(width, height, pixels, area);
+    Verdict::Accepted
+}
 
 fn fill(width: usize, height: usize, pixels: &[u8], area: &mut [u8])
     requires { ⌜ (0 < width) × (length (now pixels) ≡ width * height) × (all (λ v. leb v 1) (now pixels) ≡ true)

@@ -1,10 +1,10 @@
 -- What an accepted file is.
 --     FileGood, file-good, good-file     each rule of an accepted file, and an accepted file from its rules
 -- Assumes nothing.
-use mathlib.Core.Bool.{Bool, true, false, not}
+use mathlib.Core.Bool.{true, false, not}
 use mathlib.Core.List.{List}
 use mathlib.Core.Option.{none}
-use mathlib.Core.Path.{_≡_, refl, _∙_}
+use mathlib.Core.Path.{_≡_}
 use Prim.Native.Nat.{ℕ, _*_}
 use borrow.Author.Tests.{not-false, eqb-true, eq-eqb}
 use lib.Dec.{eqb}
@@ -14,7 +14,7 @@ use Rattle.image.specs.Header.{raster, headerForm, widthOf, heightOf}
 use Rattle.image.specs.Size.{badSize, rowBytes}
 use Rattle.seq.specs.Tab.{first}
 use Rattle.verdict.specs.declared.Verdict.the-variants.{Accepted}
-use Rattle.verdict.specs.Rules.{refuseIf, refuseAt, orElse, judge}
+use Rattle.verdict.specs.Rules.{refuseIf}
 use Rattle.verdict.proofs.Rules.{orElse-left, orElse-right, refuseIf-accepted, refuseAt-accepted}
 
 pub record FileGood (f : List ℕ) : Type 0 where

@@ -4,16 +4,16 @@
 --     decimal-digits, decimal-strict, decimal-back     the digits of a number are digits, in strict form, and make the number
 --     canonical                       strict digits are the digits of their number
 -- Assumes nothing.
-use mathlib.Core.Bool.{Bool, true, false, cond, not, _&&_, _||_}
+use mathlib.Core.Bool.{Bool, true, false, cond, not}
 use mathlib.Core.List.{List, [], _∷_, _++_}
 use mathlib.Core.Logic.{_⊎_, inl, inr, ⊎-elim}
-use mathlib.Core.Path.{_≡_, refl, sym, ap, _∙_}
-use Prim.Native.Nat.{ℕ, zero, suc, _+_, _-_, _*_, _/_, _%_, _≤_, _<_}
+use mathlib.Core.Path.{_≡_, refl, sym, ap}
+use Prim.Native.Nat.{ℕ, suc, _+_, _-_, _*_, _/_, _%_, _≤_, _<_}
 use native.Mathlib.Nat.{suc-inj, div-div-eq-div-mul}
 use native.Mathlib.Omega.{arith}
-use borrow.Author.Tests.{leb-true, ltb-true, ltb-false, eqb-false, le-leb, lt-ltb, ne-eqb, not-true}
-use lib.Dec.{leb, ltb, eqb}
-use lib.ListN.{length, getD, take}
+use borrow.Author.Tests.{ltb-true, ltb-false, eqb-false, le-leb, lt-ltb, ne-eqb, not-true}
+use lib.Dec.{ltb, eqb}
+use lib.ListN.{length, take}
 use Rattle.image.specs.Header.{isDigit, digits, decimalValue, strict, digitAt, decimal}
 use Rattle.image.proofs.Decimal.{decimal-one, decimal-two, decimal-three}
 use Rattle.image.proofs.Digits.{digit-range}

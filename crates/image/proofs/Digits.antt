@@ -8,7 +8,7 @@
 -- Assumes nothing.
 use mathlib.Core.Bool.{Bool, true, false, cond, not}
 use mathlib.Core.List.{List, [], _∷_}
-use mathlib.Core.Path.{_≡_, refl, ap, _∙_}
+use mathlib.Core.Path.{_≡_, refl, ap}
 use Prim.Native.Nat.{ℕ, zero, suc, _+_, _-_, _*_, _^_, _≤_, _<_}
 use native.Mathlib.Nat.{not-suc-le-zero, le-of-suc-le-suc, lt-of-not-le, lt-of-lt-of-le, add-zero, sub-self, pow-suc, pow-le-pow-right}
 use native.Mathlib.Numerals.{add-one}
@@ -18,7 +18,7 @@ use lib.Dec.{leb, ltb, eqb}
 use lib.ListN.{length, getD, take, drop, drop-of-length-le, List·getD-eq-default}
 use lib.Seq.{drop-cons, getD-drop}
 use Rattle.image.specs.Header.{isDigit, digits, decimalFrom, decimalValue, strict}
-use Rattle.seq.proofs.Lists.{clash, and-left, and-right}
+use Rattle.seq.proofs.Lists.{and-left, and-right}
 
 pub digits-end : (f : List ℕ) (i : ℕ) → length f ≤ i → digits (drop i f) ≡ 0
 digits-end f i h = ap digits (drop-of-length-le f h)

@@ -1,20 +1,20 @@
 -- The laws of a file's header, from those of its two numbers.
 --     number-told, number-refused       what a number at a position says of the bytes there, and its absence
---     height-place, raster-place        where the height and the raster stand in the file
+--     height-place, raster-place, raster-part     where the height and the raster stand in the file
 --     no-magic, no-width, no-height, header-found     the header, as its parts are read one after the other
 -- Assumes nothing.
 use mathlib.Core.Bool.{Bool, true, false, _&&_}
 use mathlib.Core.List.{List}
 use mathlib.Core.Path.{_≡_, refl, sym, ap, _∙_}
-use Prim.Native.Nat.{ℕ, _+_}
+use Prim.Native.Nat.{ℕ, _+_, _-_}
 use native.Mathlib.Omega.{arith}
 use lib.Dec.{eqb}
-use lib.ListN.{take, drop}
-use lib.Seq.{drop-drop}
+use lib.ListN.{length, take, drop, length-drop}
+use lib.Seq.{take-all, drop-drop}
 use Rattle.image.specs.declared.header.Header.the-variants as header
 use Rattle.image.specs.declared.number.Number.the-variants as number
 use Rattle.image.specs.Header.{digits, decimalValue, strict, after, widthPart, heightPart, raster, startsMagic, headerForm, widthOf, heightOf, space, lineFeed}
-use Rattle.image.specs.Layout.{numberIf, numberAt, rasterStart, headerIf, headerOf}
+use Rattle.image.specs.Layout.{numberIf, numberAt, rasterStart, headerOf}
 
 -- what a number at a position says of the bytes there
 record Told (bytes : List ℕ) (at stop value next : ℕ) : Type 0 where
@@ -46,6 +46,11 @@ pub raster-place : (f : List ℕ) → raster f ≡ drop (rasterStart f) f
 unfolding raster rasterStart
 raster-place f =
     ap (drop (digits (heightPart f) + 1)) (height-place f) ∙ drop-drop (digits (heightPart f) + 1) (3 + (digits (widthPart f) + 1)) f
+
+-- the raster as the reader's code takes it out of the file, as the part from a start to the end
+pub raster-part : (f : List ℕ) (start : ℕ) → rasterStart f ≡ start → raster f ≡ take (length f - start) (drop start f)
+raster-part f start e =
+    raster-place f ∙ ap (λ (k : ℕ). drop k f) e ∙ sym (take-all (length f - start) (drop start f) (simp length-drop (omega arith)))
 
 pub no-magic : (f : List ℕ) → startsMagic f ≡ false → headerOf f ≡ header.Malformed
 unfolding headerOf headerForm

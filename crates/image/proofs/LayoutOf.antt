@@ -4,28 +4,27 @@
 --     layout-size, layout-length       a size or a raster length that is refused
 --     layout-rows                      else the rows' verdict is the file's
 -- Assumes nothing.
-use mathlib.Core.Bool.{Bool, true, false, not, _&&_}
+use mathlib.Core.Bool.{Bool, true, false, _&&_}
 use mathlib.Core.List.{List}
 use mathlib.Core.Path.{_≡_, refl, sym, ap, _∙_}
 use Prim.Native.Nat.{ℕ, _+_, _-_, _*_, _≤_, _<_}
 use native.Mathlib.Omega.{arith}
 use borrow.Author.Tests.{eqb-true, eq-eqb, ne-eqb}
 use lib.Dec.{eqb}
-use lib.ListN.{length, getD, take, drop, length-drop}
-use lib.Seq.{take-all}
+use lib.ListN.{length, take, drop, length-drop}
 use Rattle.image.specs.declared.header.Header.the-variants as header
 use Rattle.image.specs.declared.layout.Layout.the-variants as layout
 use Rattle.image.specs.File.{paddingSet, fileVerdict}
-use Rattle.image.specs.Header.{digits, strict, after, widthPart, heightPart, raster, startsMagic, headerForm, widthOf, heightOf, space, lineFeed}
+use Rattle.image.specs.Header.{digits, strict, after, widthPart, heightPart, startsMagic, headerForm, widthOf, heightOf, space, lineFeed}
 use Rattle.image.specs.Layout.{rasterStart, headerIf, headerOf, layoutIf, layoutOf}
 use Rattle.image.specs.Size.{badSize, rowBytes}
-use Rattle.image.proofs.HeaderOf.{height-place, raster-place}
+use Rattle.image.proofs.HeaderOf.{height-place, raster-part}
 use Rattle.image.proofs.Judged.{orElse-accepted}
 use Rattle.image.proofs.NumberAt.{byte-within}
 use Rattle.seq.proofs.Lists.{and-right}
 use Rattle.seq.specs.Tab.{first}
 use Rattle.verdict.specs.declared.Verdict.{Verdict}
-use Rattle.verdict.specs.Rules.{refusal, refuseAt, orElse}
+use Rattle.verdict.specs.Rules.{refusal, refuseAt}
 
 record Told (f : List ℕ) (w h start : ℕ) : Type 0 where
   form : headerForm f ≡ true
@@ -69,10 +68,6 @@ module _ (f : List ℕ) (w h start : ℕ) (found : headerOf f ≡ header.Found w
   pub layout-start : start ≤ length f
   layout-start = rw (sym (t .place)) (start-within f (t .form))
 
-  raster-part : raster f ≡ take (length f - start) (drop start f)
-  raster-part =
-      raster-place f ∙ ap (λ (k : ℕ). drop k f) (t .place) ∙ sym (take-all (length f - start) (drop start f) (simp length-drop (omega arith)))
-
   pub layout-size : badSize w h ≡ true → layoutOf f ≡ layout.Refused (refusal 10 0)
   unfolding layoutOf fileVerdict
   layout-size e = simp (t .form, t .width, t .height, e)
@@ -81,10 +76,10 @@ module _ (f : List ℕ) (w h start : ℕ) (found : headerOf f ≡ header.Found w
   module _ (b : ℕ) (wide : b ≡ rowBytes w) (good : badSize w h ≡ false) where
     pub layout-length : (length (take (length f - start) (drop start f)) ≡ b * h → ⊥) → layoutOf f ≡ layout.Refused (refusal 11 0)
     unfolding layoutOf fileVerdict
-    layout-length n = simp (t .form, t .width, t .height, good, raster-part, sym wide, ne-eqb _ _ n)
+    layout-length n = simp (t .form, t .width, t .height, good, raster-part f start (t .place), sym wide, ne-eqb _ _ n)
 
     pub layout-rows : length (take (length f - start) (drop start f)) ≡ b * h
         → {v : Verdict} → v ≡ refuseAt (first (paddingSet w (take (length f - start) (drop start f))) h) 12 (λ row. row)
         → layoutOf f ≡ layoutIf v w h start
     unfolding layoutOf fileVerdict
-    layout-rows q r = simp (t .form, t .width, t .height, t .place, good, raster-part, sym wide, eq-eqb _ _ q, r, orElse-accepted)
+    layout-rows q r = simp (t .form, t .width, t .height, t .place, good, raster-part f start (t .place), sym wide, eq-eqb _ _ q, r, orElse-accepted)

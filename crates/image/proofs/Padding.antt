@@ -5,9 +5,8 @@
 --     padded-within      the last byte lies in the raster
 --     padded-found, padded-all       what the search finds: this row; none
 -- Assumes nothing.
-use mathlib.Core.Bool.{true, false}
+use mathlib.Core.Bool.{false}
 use mathlib.Core.List.{List}
-use mathlib.Core.Option.{none, some}
 use mathlib.Core.Path.{_≡_, sym, _∙_}
 use Prim.Native.Nat.{ℕ, _+_, _-_, _*_, _^_, _%_, _≤_, _<_}
 use native.Mathlib.Nat.{one-mul}
@@ -18,12 +17,14 @@ use lib.Bits.{bitAnd, and-mask}
 use lib.ListN.{length, getD}
 use lib.Pow.{shl-exact}
 use Rattle.image.specs.File.{paddingSet}
-use Rattle.image.specs.Layout.{Sides}
+use Rattle.image.specs.Rows.{Sides}
 use Rattle.image.specs.Size.{rowBytes}
 use Rattle.image.proofs.RowBytes.{row-bytes-fit}
 use Rattle.seq.proofs.Grid.{cell-below}
 use Rattle.seq.proofs.Tab.{first-at, first-none}
 use Rattle.seq.specs.Tab.{first}
+use Rattle.verdict.specs.declared.Verdict.the-variants.{Accepted, Refused}
+use Rattle.verdict.specs.Rules.{refusal, refuseAt}
 
 -- the unused bits of a last byte are fewer than eight, so the shift loses nothing
 pub padding-unit : (w b : ℕ) → b ≡ rowBytes w → 1 * 2 ^ (8 * b - w) % 256 ≡ 2 ^ (8 * rowBytes w - w)
@@ -56,9 +57,10 @@ module _ {w bytes mask last row : ℕ} {r : List ℕ} (p : Padded w r bytes mask
     clean = below-more (λ k. paddingSet w r k ≡ false) row (p .clean) (rw (eq-eqb _ 0 (masked ∙ e)));
   }
 
-  pub padded-found : (h : ℕ) → row < h → (bitAnd (getD r last 0) mask ≡ 0 → ⊥) → first (paddingSet w r) h ≡ some row
+  pub padded-found : {h : ℕ} → row < h → (bitAnd (getD r last 0) mask ≡ 0 → ⊥)
+      → Refused (refusal 12 row) ≡ refuseAt (first (paddingSet w r) h) 12 (λ k. k)
   unfolding paddingSet
-  padded-found h l n = first-at (paddingSet w r) h row l (p .clean) (rw (ne-eqb _ 0 (λ e. n (sym masked ∙ e))))
+  padded-found {h} l n = rw (first-at (paddingSet w r) h row l (p .clean) (rw (ne-eqb _ 0 (λ e. n (sym masked ∙ e)))))
 
-  pub padded-all : (h : ℕ) → h ≤ row → first (paddingSet w r) h ≡ none
-  padded-all h l = first-none (paddingSet w r) h (λ k b. p .clean k (omega arith))
+  pub padded-all : {h : ℕ} → h ≤ row → Accepted ≡ refuseAt (first (paddingSet w r) h) 12 (λ k. k)
+  padded-all {h} l = rw (first-none (paddingSet w r) h (λ k b. p .clean k (omega arith)))

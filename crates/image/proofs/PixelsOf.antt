@@ -4,13 +4,13 @@
 -- Assumes nothing.
 use mathlib.Core.Bool.{true, false, not}
 use mathlib.Core.List.{List}
-use mathlib.Core.Path.{_≡_, sym, _∙_}
+use mathlib.Core.Path.{_≡_}
 use Prim.Native.Nat.{ℕ, _*_, _/_, _≤_, _<_}
 use borrow.Author.Tests.{not-false, eqb-true, eq-eqb, ne-eqb, ltb-false, le-ltb}
 use lib.Dec.{eqb}
 use lib.ListN.{length, getD}
 use Rattle.image.specs.File.{pixelVerdict}
-use Rattle.image.specs.Layout.{tooLarge}
+use Rattle.image.specs.Rows.{tooLarge}
 use Rattle.image.specs.Size.{badSize}
 use Rattle.image.proofs.Judged.{orElse-accepted}
 use Rattle.seq.proofs.Tab.{first-none, first-nothing}

@@ -1,26 +1,25 @@
 -- Rasters there and back.
---     rows            the raster of an image
---     rows-clean      its unused bits are 0
+--     rows-clean      the unused bits of an image's raster are 0
 --     rows-back       its pixels are the image's
 --     raster-kept     the raster of the pixels of a raster whose unused bits are 0 is that raster
 --     pixels-small    a raster's pixels are 0 or 1
 -- Assumes nothing.
-use mathlib.Core.Bool.{true, false, cond}
+use mathlib.Core.Bool.{false}
 use mathlib.Core.List.{List}
 use mathlib.Core.Logic.{⊎-elim}
-use mathlib.Core.Path.{_≡_, refl, sym, ap, _∙_}
+use mathlib.Core.Path.{_≡_, sym, ap, _∙_}
 use Prim.Native.Nat.{ℕ, _+_, _-_, _*_, _/_, _%_, _^_, _≤_, _<_}
-use native.Mathlib.Nat.{mul-comm, mul-mod-left, div-lt-iff-lt-mul, mod-lt, div-add-mod'}
+use native.Mathlib.Nat.{mul-mod-left, mod-lt, div-add-mod'}
 use native.Mathlib.Omega.{arith}
 use borrow.Author.Tests.{lt-ltb, le-ltb, ltb-true, ltb-false, eq-eqb, eqb-true, not-false}
 use lib.Dec.{ltb}
 use lib.ListN.{length, getD}
 use Rattle.image.specs.File.{rasterPixel, pixelsOf, paddingSet, inRow, packed, rowByte}
-use Rattle.image.specs.Layout.{Binary}
+use Rattle.image.specs.Rows.{Binary, rasterOf}
 use Rattle.image.specs.Size.{rowBytes}
 use Rattle.image.proofs.Packed.{packed-bits, packed-ext, pixel-small}
 use Rattle.image.proofs.RowBytes.{row-bytes-fit}
-use Rattle.seq.proofs.Grid.{grid, grid-at, cell-below}
+use Rattle.seq.proofs.Grid.{grid, grid-at, index-row, cell-below}
 use Rattle.seq.proofs.HighFirst.{bitsValue, bits-zeros, bits-at, bits-back, low-zero}
 use Rattle.seq.proofs.Lists.{either}
 use Rattle.seq.proofs.Tab.{getD-tab, tab-of}
@@ -31,9 +30,6 @@ laid-at : (w h : ℕ) (g : ℕ → ℕ → ℕ) (row col : ℕ) → row < h → 
 laid-at w h g row col p q = getD-tab (grid w g) (w * h) (row * w + col) 0 (cell-below p q) ∙ grid-at w g row col q
 
 module _ (w h : ℕ) (wide : 1 ≤ w) (px : List ℕ) where
-  abbrev pub rows : List ℕ
-  rows = tab (grid (rowBytes w) (rowByte w px)) (rowBytes w * h)
-
   -- the last byte of a row: its values from the width on are 0
   last-low : (row : ℕ) → rowByte w px row (rowBytes w - 1) % 2 ^ (8 * rowBytes w - w) ≡ 0
   unfolding rowByte
@@ -46,7 +42,7 @@ module _ (w h : ℕ) (wide : 1 ≤ w) (px : List ℕ) where
       sym (packed-bits v) ∙ ap (bitsValue v) whole ∙ bits-zeros v (8 - u) u (λ k a b. rw (le-ltb (8 * (rowBytes w - 1) + k) w (omega arith))) in
       ap (λ (x : ℕ). x % 2 ^ u) factor ∙ mul-mod-left (bitsValue v (8 - u)) (2 ^ u)
 
-  pub rows-clean : (row : ℕ) → row < h → paddingSet w rows row ≡ false
+  pub rows-clean : (row : ℕ) → row < h → paddingSet w (rasterOf w h px) row ≡ false
   unfolding paddingSet
   rows-clean row l =
       let e = laid-at (rowBytes w) h (rowByte w px) row (rowBytes w - 1) l (omega (arith, row-bytes-fit w)) in
@@ -54,7 +50,7 @@ module _ (w h : ℕ) (wide : 1 ≤ w) (px : List ℕ) where
 
   module _ (bin : Binary px) where
     -- the bit that stands for a pixel of a row is that pixel
-    bit-back : (row col : ℕ) → row < h → col < w → rasterPixel w rows row col ≡ getD px (row * w + col) 0
+    bit-back : (row col : ℕ) → row < h → col < w → rasterPixel w (rasterOf w h px) row col ≡ getD px (row * w + col) 0
     unfolding rasterPixel rowByte
     bit-back row col p q =
         let v : ℕ → ℕ = λ k. inRow w px row (8 * (col / 8) + k) in
@@ -65,14 +61,13 @@ module _ (w h : ℕ) (wide : 1 ≤ w) (px : List ℕ) where
         ∙ ap (inRow w px row) k
         ∙ rw (lt-ltb col w q)
 
-    pub rows-back : length px ≡ w * h → pixelsOf w h rows ≡ px
+    pub rows-back : length px ≡ w * h → pixelsOf w h (rasterOf w h px) ≡ px
     unfolding pixelsOf
-    rows-back count = sym (tab-of (grid w (rasterPixel w rows)) px (w * h) 0 count pixel)
+    rows-back count = sym (tab-of (grid w (rasterPixel w (rasterOf w h px))) px (w * h) 0 count pixel)
       where
-        pixel : (i : ℕ) → i < w * h → getD px i 0 ≡ grid w (rasterPixel w rows) i
+        pixel : (i : ℕ) → i < w * h → getD px i 0 ≡ grid w (rasterPixel w (rasterOf w h px)) i
         pixel i l =
-            let row : i / w < h = div-lt-iff-lt-mul wide .1 (omega (arith, mul-comm w h)) in
-            ap (λ (k : ℕ). getD px k 0) (sym (div-add-mod' i w)) ∙ sym (bit-back (i / w) (i % w) row (mod-lt i wide))
+            ap (λ (k : ℕ). getD px k 0) (sym (div-add-mod' i w)) ∙ sym (bit-back (i / w) (i % w) (index-row i w h wide l) (mod-lt i wide))
 
 module _ (w h : ℕ) (wide : 1 ≤ w) (r : List ℕ) where
   pub pixels-small : (i : ℕ) → i < w * h → getD (pixelsOf w h r) i 0 ≤ 1
@@ -103,7 +98,7 @@ module _ (w h : ℕ) (wide : 1 ≤ w) (r : List ℕ) where
     value-kept row j k p q l =
         ⊎-elim (λ e. inside row j k p l (ltb-true (8 * j + k) w e)) (λ e. rw e (outside row j k p q l (ltb-false (8 * j + k) w e))) (either (ltb (8 * j + k) w))
 
-    pub raster-kept : length r ≡ rowBytes w * h → ((i : ℕ) → getD r i 0 < 256) → tab (grid (rowBytes w) (rowByte w (pixelsOf w h r))) (rowBytes w * h) ≡ r
+    pub raster-kept : length r ≡ rowBytes w * h → ((i : ℕ) → getD r i 0 < 256) → rasterOf w h (pixelsOf w h r) ≡ r
     unfolding rowByte
     raster-kept count bytes = sym (tab-of (grid (rowBytes w) (rowByte w (pixelsOf w h r))) r (rowBytes w * h) 0 count byte)
       where
@@ -111,7 +106,7 @@ module _ (w h : ℕ) (wide : 1 ≤ w) (r : List ℕ) where
         byte i l =
             let rb = rowBytes w in
             let pos : 0 < rb = omega (arith, row-bytes-fit w) in
-            let row : i / rb < h = div-lt-iff-lt-mul pos .1 (omega (arith, mul-comm rb h)) in
+            let row = index-row i rb h pos l in
             let b = getD r (i / rb * rb + i % rb) 0 in
             let bits : ℕ → ℕ = λ k. b / 2 ^ (7 - k) % 2 in
             ap (λ (k : ℕ). getD r k 0) (sym (div-add-mod' i rb))

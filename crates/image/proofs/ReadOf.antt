@@ -3,20 +3,20 @@
 --     read-refused, read-short, read-filled     the file is refused; the area is too short; the area is filled
 -- Assumes nothing.
 use mathlib.Core.List.{List}
-use mathlib.Core.Path.{_≡_, refl, sym, ap, _∙_}
+use mathlib.Core.Path.{_≡_, refl, _∙_}
 use Prim.Native.Nat.{ℕ, _-_, _*_, _≤_, _<_}
 use native.Mathlib.Omega.{arith}
 use borrow.Author.Tests.{lt-ltb, le-ltb}
-use lib.ListN.{length, take, drop, length-drop}
-use lib.Seq.{take-all}
+use lib.ListN.{length, take, drop}
 use Rattle.image.specs.declared.ImageRead.the-variants as read
 use Rattle.image.specs.declared.layout.Layout.the-variants as layout
 use Rattle.image.specs.File.{pixelsOf, fileVerdict, imageVerdict, imageRead, imageArea}
-use Rattle.image.specs.Header.{raster, widthOf, heightOf}
-use Rattle.image.specs.Layout.{rasterStart, layoutIf, layoutOf, Sides}
+use Rattle.image.specs.Header.{widthOf, heightOf}
+use Rattle.image.specs.Layout.{rasterStart, layoutIf, layoutOf}
+use Rattle.image.specs.Rows.{Sides}
 use Rattle.image.specs.Size.{rowBytes}
 use Rattle.image.proofs.Accepted.{file-good}
-use Rattle.image.proofs.HeaderOf.{raster-place}
+use Rattle.image.proofs.HeaderOf.{raster-part}
 use Rattle.image.proofs.LayoutOf.{start-within}
 use Rattle.image.proofs.RowBytes.{sides}
 use Rattle.verdict.specs.declared.Refusal.{Refusal}
@@ -63,14 +63,8 @@ module _ (f : List ℕ) {w h start : ℕ} (image : layoutOf f ≡ layout.Image w
   pub read-start : start ≤ length f
   read-start = rw (t .place) at (start-within f (file-good f (t .verdict) .form))
 
-  raster-part : raster f ≡ take (length f - start) (drop start f)
-  raster-part =
-      raster-place f
-      ∙ ap (λ (k : ℕ). drop k f) (t .place)
-      ∙ sym (take-all (length f - start) (drop start f) (simp length-drop (omega arith)))
-
   pub read-length : length (take (length f - start) (drop start f)) ≡ rowBytes w * h
-  read-length = rw (raster-part, t .width, t .height) at (file-good f (t .verdict) .count)
+  read-length = rw (raster-part f start (t .place), t .width, t .height) at (file-good f (t .verdict) .count)
 
   pub read-short : (area : List ℕ) → length area < w * h → (read.Refused (refusal 13 0) ≡ imageRead f (length area)) × (area ≡ imageArea f area)
   unfolding imageRead imageArea imageVerdict
@@ -80,4 +74,4 @@ module _ (f : List ℕ) {w h start : ℕ} (image : layoutOf f ≡ layout.Image w
       → (read.Size w h ≡ imageRead f (length area)) × (area′ ≡ imageArea f area)
   unfolding imageRead imageArea imageVerdict
   read-filled area l e =
-      (simp (t .verdict, t .width, t .height, le-ltb _ _ l), e ∙ simp (t .verdict, t .width, t .height, le-ltb _ _ l, raster-part))
+      (simp (t .verdict, t .width, t .height, le-ltb _ _ l), e ∙ simp (t .verdict, t .width, t .height, le-ltb _ _ l, raster-part f start (t .place)))

@@ -1,30 +1,30 @@
 -- Images there and back: the proof of specs/RoundTrip. Assumes nothing.
-use mathlib.Core.Bool.{Bool, true, false, _&&_}
+use mathlib.Core.Bool.{true}
 use mathlib.Core.List.{List, [], _∷_, _++_}
-use mathlib.Core.Path.{_≡_, refl, sym, ap, _∙_}
+use mathlib.Core.Path.{_≡_, ap, _∙_}
 use Prim.Native.Nat.{ℕ, zero, suc, _+_, _*_, _<_}
 use native.Mathlib.Omega.{arith}
 use borrow.Author.Tests.{ltb-true}
 use lib.Dec.{ltb}
-use lib.ListN.{length, getD}
+use lib.ListN.{getD}
 use lib.Pow.{areBytes}
 use lib.Seq.{getD-drop}
-use Rattle.image.specs.File.{rasterPixel, pixelsOf, paddingSet, fileVerdict, pixelVerdict, imageBytes, rowByte}
+use Rattle.image.specs.File.{rasterPixel, pixelsOf, paddingSet, imageBytes, rowByte}
 use Rattle.image.specs.Header.{raster, widthOf, heightOf, header}
-use Rattle.image.specs.Layout.{Sides, rasterStart}
+use Rattle.image.specs.Layout.{rasterStart}
+use Rattle.image.specs.Rows.{Sides, rasterOf}
 use Rattle.image.specs.RoundTrip.{imageOf, ReadBack, ImageRoundTrip}
 use Rattle.image.specs.Size.{rowBytes}
 use Rattle.image.proofs.Accepted.{FileGood, file-good, good-file}
 use Rattle.image.proofs.HeaderBack.{HeaderRead, header-back, header-kept}
 use Rattle.image.proofs.HeaderOf.{raster-place}
 use Rattle.image.proofs.PixelsOf.{PixelsGood, pixels-good, good-pixels}
-use Rattle.image.proofs.RasterBack.{rows, rows-clean, rows-back, raster-kept, pixels-small}
+use Rattle.image.proofs.RasterBack.{rows-clean, rows-back, raster-kept, pixels-small}
 use Rattle.image.proofs.RowBytes.{sides}
 use Rattle.image.proofs.WriteOf.{binary}
 use Rattle.seq.proofs.Grid.{grid}
 use Rattle.seq.proofs.Lists.{and-left, and-right}
 use Rattle.seq.proofs.Tab.{length-tab, first-none, first-nothing}
-use Rattle.verdict.specs.declared.Verdict.the-variants.{Accepted}
 
 -- bytes are below 256, and past them stands 0
 byte-below : (f : List ℕ) → areBytes f ≡ true → (i : ℕ) → getD f i 0 < 256
@@ -39,16 +39,16 @@ module _ (w h : ℕ) (px : List ℕ) (g : PixelsGood w h px) where
   both : Sides w h
   both = sides w h (g .size)
 
-  read : HeaderRead (imageBytes w h px) w h (rows w h (both .wide) px)
+  read : HeaderRead (imageBytes w h px) w h (rasterOf w h px)
   unfolding imageBytes
-  read = header-back w h (rows w h (both .wide) px) (omega (arith, both)) (omega (arith, both))
+  read = header-back w h (rasterOf w h px) (omega (arith, both)) (omega (arith, both))
 
   written-good : FileGood (imageBytes w h px)
   written-good = record {
     form = read .form;
     size = rw (read .width, read .height) (g .size);
     count = rw (read .rest, read .width, read .height) (length-tab (grid (rowBytes w) (rowByte w px)) (rowBytes w * h));
-    clean = rw (read .rest, read .width, read .height) (first-none (paddingSet w (rows w h (both .wide) px)) h (rows-clean w h (both .wide) px));
+    clean = rw (read .rest, read .width, read .height) (first-none (paddingSet w (rasterOf w h px)) h (rows-clean w h (both .wide) px));
   }
 
   back : ReadBack w h px

@@ -6,14 +6,14 @@
 --     image-none, image-more, image-all, image-fits    its start, a row, its end, and that the row at hand lies in both
 -- Assumes nothing.
 use mathlib.Core.List.{List}
-use mathlib.Core.Path.{_≡_, sym, ap, ap₂, _∙_}
+use mathlib.Core.Path.{_≡_, ap, _∙_}
 use Prim.Native.Nat.{ℕ, _+_, _-_, _*_, _/_, _%_, _≤_, _<_}
 use native.Mathlib.Nat.{zero-mul, mul-comm, le-trans, le-antisymm}
 use native.Mathlib.Omega.{arith}
 use lib.ListN.{length, getD}
 use lib.Seq.{sets}
 use Rattle.image.specs.File.{rasterPixel, pixelsOf}
-use Rattle.image.specs.Layout.{bytePixel, rowPixel}
+use Rattle.image.specs.Rows.{bytePixel, rowPixel}
 use Rattle.image.specs.Size.{rowBytes}
 use Rattle.image.proofs.RowBytes.{row-bytes-fit}
 use Rattle.seq.proofs.Grid.{grid, row-below, fill-row}

@@ -5,7 +5,7 @@
 -- Assumes nothing.
 use mathlib.Core.List.{List, _++_}
 use mathlib.Core.Logic.{⊎-elim}
-use mathlib.Core.Path.{_≡_, refl, sym, ap, _∙_}
+use mathlib.Core.Path.{_≡_, sym, ap, _∙_}
 use Prim.Native.Nat.{ℕ, _+_, _*_, _≤_, _<_}
 use native.Mathlib.Nat.{zero-add}
 use native.Mathlib.Omega.{arith}
@@ -15,14 +15,13 @@ use lib.ListN.{length, getD, length-append, List·getD-eq-default}
 use lib.Seq.{sets}
 use Rattle.image.specs.File.{pixelVerdict, rowByte, imageBytes, writeVerdict, imageWritten, imageOutput}
 use Rattle.image.specs.Header.{header}
-use Rattle.image.specs.Layout.{Binary}
+use Rattle.image.specs.Rows.{Binary, rasterOf}
 use Rattle.image.specs.Size.{rowBytes}
 use Rattle.image.proofs.PixelsOf.{PixelsGood}
 use Rattle.seq.proofs.Grid.{grid}
 use Rattle.seq.proofs.Lists.{either}
 use Rattle.seq.proofs.Stores.{sets-append, sets-front}
 use Rattle.seq.proofs.Tab.{length-tab}
-use Rattle.seq.specs.Tab.{tab}
 use Rattle.verdict.specs.declared.Refusal.{Refusal}
 use Rattle.verdict.specs.declared.Verdict.the-variants.{Accepted, Refused}
 use Rattle.verdict.specs.declared.Written.the-variants as written
@@ -30,13 +29,9 @@ use Rattle.verdict.specs.Rules.{refusal}
 use Rattle.verdict.specs.Writer.{over}
 
 module _ (w h : ℕ) (px : List ℕ) where
-  -- the rows of the file
-  abbrev raster : List ℕ
-  raster = tab (grid (rowBytes w) (rowByte w px)) (rowBytes w * h)
-
   pub bytes-length : length (imageBytes w h px) ≡ length (header w h) + rowBytes w * h
   unfolding imageBytes
-  bytes-length = length-append (header w h) raster ∙ ap (λ (n : ℕ). length (header w h) + n) (length-tab (grid (rowBytes w) (rowByte w px)) (rowBytes w * h))
+  bytes-length = length-append (header w h) (rasterOf w h px) ∙ ap (λ (n : ℕ). length (header w h) + n) (length-tab (grid (rowBytes w) (rowByte w px)) (rowBytes w * h))
 
   pub write-refused : {r : Refusal} → pixelVerdict w h px ≡ Refused r → (out : List ℕ)
       → (written.Refused r ≡ imageWritten w h px (length out)) × (out ≡ imageOutput w h px out)
@@ -49,15 +44,15 @@ module _ (w h : ℕ) (px : List ℕ) where
     write-short l = let s = lt-ltb (length out) (length (imageBytes w h px)) (omega (arith, bytes-length)) in (simp (good, s), simp (good, s))
 
     -- header and rows are one run of stores from the front
-    filled : {l l′ : List ℕ} {start : ℕ} → end ≤ length out → l ≡ sets out 0 (header w h) → start ≡ length (header w h) → l′ ≡ sets l start raster
+    filled : {l l′ : List ℕ} {start : ℕ} → end ≤ length out → l ≡ sets out 0 (header w h) → start ≡ length (header w h) → l′ ≡ sets l start (rasterOf w h px)
         → l′ ≡ over (imageBytes w h px) out
     unfolding imageBytes over
     filled fits e q r =
         r
-        ∙ rw (e, q, ← zero-add (length (header w h))) (sets-append (header w h) raster out 0)
-        ∙ sets-front (header w h ++ raster) out (omega (arith, bytes-length))
+        ∙ rw (e, q, ← zero-add (length (header w h))) (sets-append (header w h) (rasterOf w h px) out 0)
+        ∙ sets-front (header w h ++ rasterOf w h px) out (omega (arith, bytes-length))
 
-    pub write-filled : {l l′ : List ℕ} {start : ℕ} → end ≤ length out → l ≡ sets out 0 (header w h) → start ≡ length (header w h) → l′ ≡ sets l start raster
+    pub write-filled : {l l′ : List ℕ} {start : ℕ} → end ≤ length out → l ≡ sets out 0 (header w h) → start ≡ length (header w h) → l′ ≡ sets l start (rasterOf w h px)
         → (written.Length end ≡ imageWritten w h px (length out)) × (l′ ≡ imageOutput w h px out)
     unfolding imageWritten imageOutput writeVerdict
     write-filled fits e q r =

@@ -3,3 +3,4 @@ pub mod Header
 pub mod File
 pub mod RoundTrip
 pub mod Layout
+pub mod Rows

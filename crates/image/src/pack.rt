@@ -5,18 +5,16 @@ ghost use mathlib.Core.Path.{_≡_};
 ghost use Prim.Native.Nat.{_+_, _*_, _≤_};
 ghost use lib.ListN.{length};
 ghost use lib.Seq.{sets};
-ghost use Rattle.image.specs.File.{packed, rowByte};
-ghost use Rattle.image.specs.Layout.{Sides, Binary, pixelIn, packedRow};
+ghost use Rattle.image.specs.File.{packed};
+ghost use Rattle.image.specs.Rows.{Sides, Binary, pixelIn, packedRow, rasterOf};
 ghost use Rattle.image.specs.Size.{rowBytes};
-ghost use Rattle.seq.proofs.Grid.{grid};
 ghost use Rattle.seq.specs.Tab.{tab};
 
 // All rows from `start` on; `from` is the place of a row's first pixel, `to` that of its first byte.
 pub(crate) fn image(pixels: &[u8], width: usize, height: usize, out: &mut [u8], start: usize)
     requires { ⌜ Sides width height × Binary (now pixels) × (length (now pixels) ≡ width * height)
         × (start + rowBytes width * height ≤ length (now out)) ⌝ }
-    ensures { λ _. ⌜ now (out .exit)
-        ≡ sets (now (out .entry)) start (tab (grid (rowBytes width) (rowByte width (now (pixels .entry)))) (rowBytes width * height)) ⌝ }
+    ensures { λ _. ⌜ now (out .exit) ≡ sets (now (out .entry)) start (rasterOf width height (now (pixels .entry))) ⌝ }
 {
     let bytes = size::row_bytes(width);
     let mut from = 0;

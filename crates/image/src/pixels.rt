@@ -4,7 +4,7 @@ use verdict::Verdict;
 ghost use mathlib.Core.Path.{_≡_};
 ghost use Prim.Native.Nat.{_+_, _*_, _/_, _≤_};
 ghost use lib.ListN.{length};
-ghost use Rattle.image.specs.Layout.{Sides, tooLarge};
+ghost use Rattle.image.specs.Rows.{Sides, tooLarge};
 ghost use Rattle.seq.specs.Lists.{isSome};
 ghost use Rattle.seq.specs.Tab.{first};
 ghost use Rattle.verdict.specs.Rules.{refuseAt};
@@ -19,7 +19,7 @@ pub(crate) fn check_values(pixels: &[u8], width: usize, height: usize) -> Verdic
     let mut from = 0;
     let mut row = 0;
     while row < height {
-        if is_above(pixels, from, width) {
+        if row_exceeds(pixels, from, width) {
             return Verdict::Refused(Refusal {
                 number: verdict::PIXEL_VALUE,
                 place: row,
@@ -32,7 +32,7 @@ pub(crate) fn check_values(pixels: &[u8], width: usize, height: usize) -> Verdic
 }
 
 // A row has a byte above 1.
-fn is_above(pixels: &[u8], from: usize, width: usize) -> bool
+fn row_exceeds(pixels: &[u8], from: usize, width: usize) -> bool
     requires { ⌜ from + width ≤ length (now pixels) ⌝ }
     ensures { λ r. ⌜ r ≡ isSome (first (λ c. tooLarge (now (pixels .entry)) (from + c)) width) ⌝ }
 {

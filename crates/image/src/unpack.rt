@@ -6,7 +6,7 @@ ghost use Prim.Native.Nat.{_+_, _*_, _≤_};
 ghost use lib.ListN.{length};
 ghost use lib.Seq.{sets};
 ghost use Rattle.image.specs.File.{pixelsOf};
-ghost use Rattle.image.specs.Layout.{Sides, bytePixel, rowPixel};
+ghost use Rattle.image.specs.Rows.{Sides, bytePixel, rowPixel};
 ghost use Rattle.image.specs.Size.{rowBytes};
 ghost use Rattle.seq.specs.Tab.{tab};
 ghost use Rattle.verdict.specs.Writer.{over};

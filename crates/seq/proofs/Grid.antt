@@ -1,15 +1,17 @@
 -- A grid of rows of w cells, laid out row by row: the cell at row r and column c < w has the index r · w + c.
 --     grid w g                 the table of g at row and column, as a function of the index
---     grid-at                  at the index r · w + c it is g r c
+--     cell-row, cell-column    the row and the column of the index r · w + c
+--     index-row                the row of an index below w · h is below h
+--     next-column, next-row    the index one column on, and the index one row on
 --     cell-below, row-below    a cell and a whole row of h rows lie below w · h
+--     grid-at                  the table at the index r · w + c is g r c
 --     grid-row                 the rows before r, and row r, are the rows before r + 1
 --     fill-cell, fill-row      a list that is filled row by row: one cell more, one row more
 --     stored-row               the same for a run of stores that starts anywhere
 --     rowPasses, first-rows    some cell of a row passes a test; the row of the first index that passes a test is the first row in which one passes
--- The step to the next column is r · w + c + 1 ≡ r · w + (c + 1), to the next row r · w + w ≡ (r + 1) · w: `omega` has both.
 -- Assumes nothing.
-use mathlib.Core.Bool.{Bool, true, false}
-use mathlib.Core.List.{List, [], _∷_, _++_}
+use mathlib.Core.Bool.{Bool, false}
+use mathlib.Core.List.{List, _++_}
 use mathlib.Core.Option.{Option, none, some, Option·map}
 use mathlib.Core.Path.{_≡_, refl, sym, ap, ap₂, _∙_}
 use Prim.Native.Nat.{ℕ, zero, suc, _+_, _*_, _/_, _%_, _≤_, _<_}
@@ -27,6 +29,18 @@ use Rattle.seq.proofs.Tab.{tab-ext, fill-more, first-at, first-none, fi
 abbrev pub grid {ℓ} : {A : Type ℓ} → ℕ → (ℕ → ℕ → A) → ℕ → A
 grid w g i = g (i / w) (i % w)
 
+pub cell-row : (r : ℕ) {w c : ℕ} → c < w → (r * w + c) / w ≡ r
+cell-row r h = digits-div r h
+
+pub cell-column : (r : ℕ) {w c : ℕ} → c < w → (r * w + c) % w ≡ c
+cell-column r h = digits-mod r h
+
+pub index-row : (i w h : ℕ) → 0 < w → i < w * h → i / w < h
+index-row i w h pos l = div-lt-iff-lt-mul pos .1 (omega (arith, mul-comm w h))
+
+pub next-column : (r w c : ℕ) → r * w + c + 1 ≡ r * w + (c + 1)
+next-column r w c = omega arith
+
 pub next-row : (r w : ℕ) → r * w + w ≡ (r + 1) * w
 next-row r w = omega arith
 
@@ -38,7 +52,7 @@ row-below {r} {h} w p = let q : r + 1 ≤ h = omega arith in omega (arith, mul-l
 
 module _ {ℓ} {A : Type ℓ} (w : ℕ) (g : ℕ → ℕ → A) where
   pub grid-at : (r c : ℕ) → c < w → grid w g (r * w + c) ≡ g r c
-  grid-at r c h = ap₂ g (digits-div r h) (digits-mod r h)
+  grid-at r c h = ap₂ g (cell-row r h) (cell-column r h)
 
   pub grid-row : (r : ℕ) → tab (grid w g) ((r + 1) * w) ≡ tab (grid w g) (r * w) ++ tab (g r) w
   grid-row r =
@@ -78,7 +92,7 @@ first-rows p w h = step (first p (w * h)) refl
     at : (i : ℕ) → Found p (w * h) i → 0 < w → first (rowPasses p w) h ≡ some (i / w)
     at i f pos =
         let split : i / w * w + i % w ≡ i = div-add-mod' i w in
-        first-at (rowPasses p w) h (i / w) (div-lt-iff-lt-mul pos .1 (omega (arith, f .below, mul-comm w h)))
+        first-at (rowPasses p w) h (i / w) (index-row i w h pos (f .below))
         (rows-none p w (i / w) (λ k b. f .lowest k (omega arith)))
         (first-some (λ c. p (i / w * w + c)) w (mod-lt i pos) (rw split (f .passes)))
 

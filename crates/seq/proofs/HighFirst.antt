@@ -7,7 +7,7 @@
 --     bits-back         the bits of a number below 2 ^ n make that number
 --     low-zero          below a factor 2 ^ m every bit is 0
 -- Assumes nothing.
-use mathlib.Core.Path.{_≡_, refl, sym, ap, _∙_}
+use mathlib.Core.Path.{_≡_, sym, ap, _∙_}
 use Prim.Native.Nat.{ℕ, zero, suc, _+_, _-_, _*_, _/_, _%_, _^_, _≤_, _<_}
 use native.Mathlib.Nat.{add-zero, add-suc, sub-zero, sub-self, mul-one, mul-assoc, pow-zero, pow-suc, pow-succ', zero-div, div-one, div-eq-of-lt, div-div-eq-div-mul}
 use native.Mathlib.Omega.{arith}

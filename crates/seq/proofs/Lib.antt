@@ -10,3 +10,4 @@ pub mod Stores
 pub mod Notes
 pub mod Loops
 pub mod Rows
+pub mod Fronts

@@ -14,7 +14,7 @@ use borrow.Author.Count.{below-more}
 use Rattle.seq.specs.Lists.{isSome}
 use Rattle.seq.specs.Tab.{first}
 use Rattle.seq.proofs.Lists.{clash, either}
-use Rattle.seq.proofs.Tab.{Found, first-none, first-found, first-nothing}
+use Rattle.seq.proofs.Tab.{first-none, first-found, first-nothing}
 
 pub first-some : (p : ℕ → Bool) (n : ℕ) {k : ℕ} → k < n → p k ≡ true → isSome (first p n) ≡ true
 first-some p n {k} h e = step (first p n) refl

@@ -5,16 +5,15 @@
 --     first-more, first-size, first-le       one element more; their number; in order
 --     Placed t l at k next out         where writing the elements stands after k
 -- Assumes nothing.
-use mathlib.Core.Bool.{Bool}
 use mathlib.Core.List.{List, [], _∷_, _++_, map, append-nil}
 use mathlib.Core.Path.{_≡_, refl, sym, ap, ap₂, _∙_}
-use Prim.Native.Nat.{ℕ, suc, _+_, _*_, _/_, _%_, _^_, _≤_, _<_}
+use Prim.Native.Nat.{ℕ, _+_, _*_, _/_, _%_, _^_, _≤_, _<_}
 use native.Mathlib.Decide.{le-ind}
 use native.Mathlib.Nat.{div-one, div-div-eq-div-mul, pow-suc, le-trans, le-of-lt, le-refl, lt-of-lt-of-le, add-zero}
 use native.Mathlib.Numerals.{add-one}
 use native.Mathlib.Omega.{arith}
 use lib.Dec.{leb, ltb}
-use lib.ListN.{length, getD, take, set, length-append}
+use lib.ListN.{length, take, set, length-append}
 use lib.Seq.{sets, length-sets, take-suc}
 use Rattle.seq.specs.Lists.{one, join}
 use Rattle.seq.specs.Tab.{tab}

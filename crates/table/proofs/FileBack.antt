@@ -1,15 +1,15 @@
 -- An accepted file, read and written: the record is accepted, and its bytes are the file's.
 -- Assumes nothing.
-use mathlib.Core.Bool.{Bool, true, false, not, cond, _&&_}
+use mathlib.Core.Bool.{true, not, cond}
 use mathlib.Core.List.{List, [], _∷_, _++_, map, append-nil, append-assoc}
-use mathlib.Core.Path.{_≡_, refl, sym, ap, ap₂, _∙_}
+use mathlib.Core.Path.{_≡_, refl, sym, ap, _∙_}
 use Prim.Native.Nat.{ℕ, zero, suc, _+_, _≤_, _<_}
 use native.Mathlib.Nat.{le-refl, le-of-lt}
 use native.Mathlib.Numerals.{add-one}
 use native.Mathlib.Omega.{arith}
 use borrow.Author.Tests.{lt-ltb, eqb-true, not-false}
 use lib.Dec.{ltb, eqb}
-use lib.ListN.{length, take, drop}
+use lib.ListN.{length, drop}
 use lib.Pow.{areBytes}
 use Rattle.seq.specs.Lists.{join}
 use Rattle.seq.specs.Tab.{tab}
@@ -22,12 +22,11 @@ use Rattle.table.specs.Number.{size, numberRules, numberBytes}
 use Rattle.table.specs.Reading.{elementsRules, lastRules}
 use Rattle.table.specs.Record.{maxElements, masks, badCount, badPersistent, countRule, elementRule, persistentRule, meetRule, persistRule}
 use Rattle.table.specs.Search.{badNumber}
-use Rattle.table.proofs.Fewest.{front-bytes, rules-front}
+use Rattle.table.proofs.Front.{front-bytes, rules-front}
 use Rattle.table.proofs.Files.{file-verdict, last-rules}
 use Rattle.table.proofs.Judging.{four-accepted, judge-each}
 use Rattle.table.proofs.Tables.{good-table}
 use Rattle.table.proofs.Verdicts.{count-le, Sound}
-use Rattle.verdict.specs.declared.Verdict.{Verdict}
 use Rattle.verdict.specs.declared.Verdict.the-variants.{Accepted}
 use Rattle.verdict.specs.Rules.{refuseIf, orElse, judge}
 use Rattle.verdict.proofs.Rules.{judge-append, orElse-left, refuseIf-accepted}

@@ -8,7 +8,7 @@
 -- Assumes nothing.
 use mathlib.Core.Bool.{Bool, true, false, not}
 use mathlib.Core.List.{List, [], _∷_, _++_, map}
-use mathlib.Core.Path.{_≡_, refl, sym, ap, ap₂, _∙_}
+use mathlib.Core.Path.{_≡_, sym, ap, ap₂, _∙_}
 use Prim.Native.Nat.{ℕ, suc, _+_, _-_, _≤_, _<_}
 use native.Mathlib.Omega.{arith}
 use borrow.Author.Tests.{eq-eqb, ne-eqb}
@@ -23,12 +23,13 @@ use Rattle.table.specs.File.{rest, number, tableOf, bytesLeft, elementRu
 use Rattle.table.specs.Mask.{validMask}
 use Rattle.table.specs.Number.{size, value, numberRules}
 use Rattle.table.specs.Reading.{elementsRules, lastRules, CountRead, LastRead}
-use Rattle.table.specs.Record.{zeroTable, badCount, badPersistent, countRule, persistentRule, meetRule, persistRule}
+use Rattle.table.specs.Record.{badCount, badPersistent, countRule, persistentRule, meetRule, persistRule}
 use Rattle.table.specs.Search.{badNumber}
-use Rattle.table.proofs.Judging.{orElse-assoc, orElse-accepted, rules-refused, rules-read}
+use Rattle.table.proofs.Cursor.{rules-refused, rules-read}
+use Rattle.table.proofs.Judging.{orElse-assoc, orElse-accepted}
 use Rattle.verdict.specs.declared.Refusal.{Refusal}
 use Rattle.verdict.specs.declared.Verdict.{Verdict}
-use Rattle.verdict.specs.declared.Verdict.the-variants.{Accepted, Refused}
+use Rattle.verdict.specs.declared.Verdict.the-variants.{Refused}
 use Rattle.verdict.specs.Rules.{refusal, refuseIf, orElse, judge}
 use Rattle.verdict.proofs.Rules.{judge-append}
 

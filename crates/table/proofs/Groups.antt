@@ -3,17 +3,17 @@
 --     Summed l n j v  a sum of n groups from the last on stands at j: v is the value of those from j on
 -- Each with the loop's start, its step and its ends.
 -- Assumes nothing.
-use mathlib.Core.Bool.{Bool, true, false, cond}
+use mathlib.Core.Bool.{cond}
 use mathlib.Core.List.{List, [], _∷_}
-use mathlib.Core.Path.{_≡_, refl, sym, ap, _∙_}
-use Prim.Native.Nat.{ℕ, zero, suc, _+_, _-_, _*_, _%_, _≤_, _<_}
+use mathlib.Core.Path.{_≡_, sym, ap, _∙_}
+use Prim.Native.Nat.{ℕ, suc, _+_, _-_, _*_, _%_, _≤_, _<_}
 use native.Mathlib.Nat.{zero-add, add-zero}
 use native.Mathlib.Numerals.{add-one}
 use native.Mathlib.Omega.{arith}
 use borrow.Author.Tests.{le-leb, lt-leb}
 use lib.Dec.{leb}
 use lib.ListN.{length, getD, take, drop, length-take, length-drop, drop-of-length-le}
-use lib.Seq.{drop-cons, take-nil, drop-length, getD-take, getD-drop}
+use lib.Seq.{drop-cons, take-nil, getD-take}
 use Rattle.table.specs.Number.{run, more, groups}
 
 pub record Counted (l : List ℕ) (i : ℕ) : Type 0 where

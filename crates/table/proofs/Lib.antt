@@ -3,6 +3,7 @@ pub mod Cursor
 pub mod Fewest
 pub mod FileBack
 pub mod Files
+pub mod Front
 pub mod Groups
 pub mod Judging
 pub mod Outputs

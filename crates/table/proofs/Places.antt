@@ -8,14 +8,12 @@
 use mathlib.Core.Bool.{Bool, true, false, not, _||_, or-false, Bool·not-not}
 use mathlib.Core.Option.{Option, none}
 use mathlib.Core.Path.{_≡_, refl, sym, ap, _∙_}
-use Prim.Native.Nat.{ℕ, zero, suc, _+_, _-_, _^_, _≤_, _<_, zero-le}
+use Prim.Native.Nat.{ℕ, _-_, _^_, _≤_, _<_}
 use native.Mathlib.Omega.{arith}
 use borrow.Author.Tests.{le-leb, lt-leb, eqb-true, ltb-true, ltb-false, lt-ltb, le-ltb, not-false}
 use lib.Dec.{leb, ltb, eqb}
-use lib.ListN.{getD}
 use Rattle.seq.specs.Bits.{bit}
 use Rattle.seq.specs.Lists.{isSome}
-use Rattle.seq.specs.Tab.{first}
 use Rattle.seq.proofs.Tab.{first-nothing}
 use Rattle.seq.proofs.Tests.{or-none-left}
 use Rattle.table.specs.declared.Table.{Table}

@@ -9,7 +9,7 @@
 use mathlib.Core.Bool.{Bool, true, false, not, _&&_, and-true, and-false}
 use mathlib.Core.List.{List, [], _∷_}
 use mathlib.Core.Logic.{⊎-elim}
-use mathlib.Core.Path.{_≡_, refl, sym, ap, ap₂, _∙_}
+use mathlib.Core.Path.{_≡_, refl, ap, ap₂, _∙_}
 use Prim.Native.Nat.{ℕ, _+_, _-_, _*_, _/_, _%_, _^_, _≤_, _<_}
 use native.Mathlib.Nat.{mod-eq-of-lt}
 use native.Mathlib.Omega.{arith}
@@ -17,8 +17,8 @@ use borrow.Author.Tests.{eq-eqb, ne-eqb}
 use lib.Bits.{bitAnd}
 use lib.Dec.{leb, eqb}
 use lib.ListN.{getD}
-use Rattle.seq.specs.Bits.{bit, bitsOf}
-use Rattle.seq.specs.Lists.{any, all, same}
+use Rattle.seq.specs.Bits.{bit}
+use Rattle.seq.specs.Lists.{all, same}
 use Rattle.seq.specs.Tab.{upTo}
 use Rattle.seq.proofs.Bits.{bit-and, bit-shr, bit-shl, bit-low, bit-above, any-and}
 use Rattle.seq.proofs.Lists.{all-elim, same-true}
@@ -45,8 +45,12 @@ apart-masks e f h z = ap not (meets-and e f h ∙ ap not (eq-eqb (bitAnd e f) 0 
 pub meeting-masks : (e f : ℕ) → e < 2 ^ 25 → (bitAnd e f ≡ 0 → ⊥) → not (meets e f) ≡ false
 meeting-masks e f h z = ap not (meets-and e f h ∙ ap not (ne-eqb (bitAnd e f) 0 z))
 
+-- the lowest bit of each of the five rows
+abbrev eachRow : ℕ
+eachRow = 1082401
+
 abbrev pub columns : List ℕ
-columns = 30307228 ∷ 32472030 ∷ 33554431 ∷ 16236015 ∷ 7576807 ∷ []
+columns = 0b11100 * eachRow ∷ 0b11110 * eachRow ∷ 0b11111 * eachRow ∷ 0b01111 * eachRow ∷ 0b00111 * eachRow ∷ []
 
 abbrev column : ℕ → ℕ → Bool
 column x a = leb 2 (x + across a) && leb (x + across a) 6

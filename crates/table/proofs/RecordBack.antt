@@ -1,35 +1,33 @@
 -- A record that the check accepts, written and read: the same numbers, the same record, and an accepted file.
 -- Assumes nothing.
-use mathlib.Core.Bool.{Bool, true, false, not, cond}
+use mathlib.Core.Bool.{Bool, false, not, cond}
 use mathlib.Core.List.{List, [], _∷_, _++_, map, append-nil, append-assoc}
 use mathlib.Core.Logic.{_⊎_, inl, inr}
 use mathlib.Core.Path.{_≡_, refl, sym, ap, ap₂, _∙_}
-use Prim.Native.Nat.{ℕ, zero, suc, _+_, _^_, _≤_, _<_, zero-le}
+use Prim.Native.Nat.{ℕ, zero, suc, _+_, _≤_, _<_}
 use native.Mathlib.Nat.{le-refl, le-of-lt, lt-of-lt-of-le}
 use native.Mathlib.Numerals.{add-one}
 use native.Mathlib.Omega.{arith}
 use borrow.Author.Tests.{lt-ltb, le-ltb, eqb-true, not-false}
 use lib.Dec.{ltb, eqb}
-use lib.ListN.{length, getD, take, drop, length-take, drop-of-length-le}
+use lib.ListN.{length, take, drop, length-take, drop-of-length-le}
 use lib.Seq.{drop-cons, getD-take}
 use Rattle.seq.specs.Lists.{join}
-use Rattle.seq.specs.Tab.{tab, upTo}
+use Rattle.seq.specs.Tab.{upTo}
 use Rattle.seq.proofs.Tab.{tab-of, first-nothing}
 use Rattle.seq.proofs.Tests.{lt-or-le}
 use Rattle.table.specs.declared.Table.{Table}
 use Rattle.table.specs.File.{rest, number, tableOf, bytesLeft, elementRules, fileVerdict, tableBytes}
-use Rattle.table.specs.Mask.{validMask}
 use Rattle.table.specs.Number.{size, value, numberRules, numberBytes}
 use Rattle.table.specs.Reading.{elementsRules, lastRules}
 use Rattle.table.specs.Record.{maxElements, element, masks, badCount, badElement, badPlace, badPersistent, countRule, elementRule, persistentRule, meetRule, persistRule}
 use Rattle.table.specs.Search.{badNumber, lowestBad}
-use Rattle.table.proofs.Fewest.{Front, bytes-front, front-reads}
+use Rattle.table.proofs.Front.{Front, bytes-front, front-reads}
 use Rattle.table.proofs.Files.{file-verdict, last-rules, table-eq}
 use Rattle.table.proofs.Judging.{below, judge-more, orElse-accepted}
 use Rattle.table.proofs.Places.{bad-within, bad-past, place-lt}
 use Rattle.table.proofs.Positions.{mask-lt}
 use Rattle.table.proofs.Verdicts.{count-le, Sound}
-use Rattle.verdict.specs.declared.Verdict.{Verdict}
 use Rattle.verdict.specs.declared.Verdict.the-variants.{Accepted}
 use Rattle.verdict.specs.Rules.{refuseIf, orElse, judge}
 use Rattle.verdict.proofs.Rules.{judge-append}

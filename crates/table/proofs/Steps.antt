@@ -5,17 +5,16 @@
 --     stepped-all                      the loop's end
 -- Assumes nothing.
 use mathlib.Core.Bool.{Bool, true, false, cond}
-use mathlib.Core.List.{List, map}
-use mathlib.Core.Path.{_≡_, refl, sym, ap, ap₂, _∙_, subst}
+use mathlib.Core.List.{List}
+use mathlib.Core.Path.{_≡_, refl, sym, ap, ap₂, _∙_}
 use Prim.Native.Nat.{ℕ, suc, _+_, _≤_, _<_}
 use native.Mathlib.Nat.{lt-of-lt-of-le}
 use native.Mathlib.Numerals.{add-one}
 use native.Mathlib.Omega.{arith}
 use borrow.Author.Tests.{lt-ltb, le-ltb}
 use lib.Dec.{ltb}
-use lib.ListN.{length, getD, drop, set, replicate, getD-replicate}
-use Rattle.seq.specs.Lists.{join}
-use Rattle.seq.specs.Tab.{tab, upTo, Filled}
+use lib.ListN.{drop, set, replicate, getD-replicate}
+use Rattle.seq.specs.Tab.{upTo, Filled}
 use Rattle.seq.proofs.Joins.{fill-rest}
 use Rattle.seq.proofs.Tab.{fill-none, fill-more}
 use Rattle.table.specs.declared.number.NumberRead.the-variants as read
@@ -25,7 +24,8 @@ use Rattle.table.specs.Number.{size, value, numberRules}
 use Rattle.table.specs.Reading.{elementsRules, ElementsRead}
 use Rattle.table.specs.Record.{maxElements}
 use Rattle.table.specs.Search.{badAfter}
-use Rattle.table.proofs.Judging.{below, judge-more, judge-at, rules-refused, rules-read}
+use Rattle.table.proofs.Cursor.{rules-refused, rules-read}
+use Rattle.table.proofs.Judging.{below, judge-more, judge-at}
 use Rattle.table.proofs.Tables.{before, element-judged}
 use Rattle.verdict.specs.declared.Verdict.{Verdict}
 use Rattle.verdict.specs.declared.Verdict.the-variants.{Accepted, Refused}

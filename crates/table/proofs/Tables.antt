@@ -4,19 +4,16 @@
 --     element-judged                 the rules on one element
 --     good-table                     a file whose elements are accepted makes a record without bad places
 -- Assumes nothing.
-use mathlib.Core.Bool.{Bool, true, false, cond, not}
-use mathlib.Core.List.{List, [], _∷_, _++_, map, List·Memᴰ·head, Memᴰ·append-right}
+use mathlib.Core.Bool.{Bool, false, cond, not}
+use mathlib.Core.List.{List, [], _∷_, List·Memᴰ·head, Memᴰ·append-right}
 use mathlib.Core.Logic.{_⊎_, inl, inr}
 use mathlib.Core.Option.{none}
-use mathlib.Core.Path.{_≡_, refl, sym, ap, ap₂, _∙_}
-use Prim.Native.Nat.{ℕ, zero, suc, _+_, _-_, _≤_, _<_, zero-le, suc-le-suc}
+use mathlib.Core.Path.{_≡_, refl, ap, ap₂, _∙_}
+use Prim.Native.Nat.{ℕ, zero, suc, _-_, _≤_, _<_, zero-le, suc-le-suc}
 use native.Mathlib.Nat.{lt-of-lt-of-le}
 use native.Mathlib.Omega.{arith}
 use borrow.Author.Tests.{lt-ltb, le-ltb, eq-eqb}
-use lib.Dec.{ltb, eqb}
-use lib.ListN.{getD}
-use Rattle.seq.specs.Lists.{join}
-use Rattle.seq.specs.Tab.{tab, upTo}
+use lib.Dec.{ltb}
 use Rattle.seq.proofs.Lists.{join-intro, map-intro}
 use Rattle.seq.proofs.Tab.{getD-tab, upTo-intro, first-none}
 use Rattle.seq.proofs.Tests.{lt-or-le}

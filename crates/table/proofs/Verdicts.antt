@@ -5,10 +5,9 @@
 -- Assumes nothing.
 use mathlib.Core.Bool.{Bool, true, false, not}
 use mathlib.Core.Option.{Option, none, some}
-use mathlib.Core.Path.{_≡_, refl, sym, ap, ap₂, _∙_}
+use mathlib.Core.Path.{_≡_, sym, ap, _∙_}
 use Prim.Native.Nat.{ℕ, suc, _+_, _≤_, _<_}
 use native.Mathlib.Numerals.{add-one}
-use native.Mathlib.Omega.{arith}
 use borrow.Author.Tests.{not-false}
 use Rattle.seq.specs.Tab.{first}
 use Rattle.seq.proofs.Tab.{first-found}
@@ -20,9 +19,8 @@ use Rattle.table.specs.Mask.{validMask}
 use Rattle.table.specs.Record.{maxElements, badCount, badPersistent, countRule, persistentRule, meetRule, persistRule, recordVerdict}
 use Rattle.table.specs.Search.{found, badNumber, lowestBad}
 use Rattle.table.proofs.Judging.{orElse-accepted, four-accepted}
-use Rattle.verdict.specs.declared.Verdict.{Verdict}
 use Rattle.verdict.specs.declared.Verdict.the-variants.{Accepted, Refused}
-use Rattle.verdict.specs.Rules.{refusal, refuseIf, refuseAt, orElse, judge}
+use Rattle.verdict.specs.Rules.{refusal, refuseAt, orElse}
 use Rattle.verdict.proofs.Rules.{refuseIf-accepted, refuseAt-accepted}
 
 pub search-lt : (p : ℕ → Bool) (n : ℕ) {s : Search} {k : ℕ} → found s ≡ first p n → s ≡ Found k → k < n

@@ -5,6 +5,7 @@ mod reading;
 mod record;
 mod writing;
 
+use mask::Search;
 use number::NumberRead;
 use verdict::Verdict;
 use verdict::Written;
@@ -33,8 +34,7 @@ pub fn check(table: Table) -> Verdict
     if record::bad_count(table.count) {
         return record::refused(verdict::ELEMENT_COUNT, 0);
     }
-    let bad = record::first_bad_place(table);
-    if let mask::Search::Found(k) = bad {
+    if let Search::Found(k) = record::first_bad_place(table) {
         return record::refused(verdict::ELEMENT_RANGE, k + 1);
     }
     if !mask::valid(table.persistent) {

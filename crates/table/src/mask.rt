@@ -1,4 +1,10 @@
-// Masks of the 25 positions of a 5 × 5 window (01, The table).
+// Masks of the 25 positions of a 5 × 5 window: bit n stands for position n (01, The table).
+//
+//      0  1  2  3  4
+//      5  6  7  8  9
+//     10 11 12 13 14      12 is the centre, the offset (0, 0)
+//     15 16 17 18 19
+//     20 21 22 23 24
 ghost use mathlib.Core.Bool.{not, _&&_};
 ghost use mathlib.Core.Path.{_≡_};
 ghost use Prim.Native.Nat.{ℕ, _<_, _^_};
@@ -20,8 +26,17 @@ const CENTRE: usize = 12;
 
 const LARGEST: u32 = 33554431;
 
-// The columns of b, from 0 to 4, have these partners a: those whose columns add up to one of the window.
-const COLUMNS: [u64; 5] = [30307228, 32472030, 33554431, 16236015, 7576807];
+// The lowest bit of each of the five rows.
+const EACH_ROW: u64 = 1082401;
+
+// For each column of b the columns of the offsets a with b + a in the window, in each row.
+const COLUMNS: [u64; 5] = [
+    0b11100 * EACH_ROW,
+    0b11110 * EACH_ROW,
+    0b11111 * EACH_ROW,
+    0b01111 * EACH_ROW,
+    0b00111 * EACH_ROW,
+];
 
 pub(crate) fn valid(mask: u32) -> bool
     ensures { λ r. ⌜ r ≡ validMask mask ⌝ }
@@ -71,3 +86,4 @@ fn partners(persistent: u32, b: usize) -> u64
 {
     (((persistent as u64) << CENTRE) >> b) & COLUMNS[b % SIDE]
 }
+// x

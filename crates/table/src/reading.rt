@@ -6,14 +6,13 @@ use crate::number;
 use crate::number::NumberRead;
 use crate::record;
 use verdict::Verdict;
-ghost use mathlib.Core.Option.{none};
 ghost use mathlib.Core.Path.{_≡_};
-ghost use Prim.Native.Nat.{_+_, _≤_, _<_, _^_};
+ghost use Prim.Native.Nat.{_≤_};
 ghost use lib.ListN.{drop};
 ghost use Rattle.table.specs.File.{rest, number, tableOf, readAs, readTable};
 ghost use Rattle.table.specs.Reading.{CountRead, ElementsRead, LastRead, lastRules};
 ghost use Rattle.table.specs.Record.{zeroTable, meetRule, persistRule};
-ghost use Rattle.table.specs.Search.{lowestBad};
+ghost use Rattle.table.specs.Search.{InRange};
 ghost use Rattle.verdict.specs.Rules.{refusal, orElse, judge};
 ghost use Rattle.verdict.specs.declared.Verdict.the-variants as the-verdict;
 
@@ -24,6 +23,7 @@ struct Elements {
     at: usize,
 }
 
+// A refused answer: all else is zero.
 pub(crate) fn refused(number: u32, place: usize) -> TableRead
     ensures { λ r. ⌜ r ≡ readAs (the-verdict.Refused (refusal number place)) zeroTable ⌝ }
 {
@@ -119,7 +119,7 @@ fn read_persistent(file: &[u8], count: usize, elements: [u32; 64], at: usize) ->
 
 // The record, after its rules 5 and 7.
 fn related(table: Table) -> TableRead
-    requires { ⌜ (lowestBad table ≡ none) × (table .count ≤ 64) × (table .persistent < 2 ^ 25) ⌝ }
+    requires { ⌜ InRange table ⌝ }
     ensures { λ r. ⌜ r ≡ readAs (orElse (meetRule table) (persistRule table)) table ⌝ }
 {
     match record::relations(table) {

@@ -4,14 +4,13 @@ use crate::mask;
 use crate::mask::Search;
 use verdict::Refusal;
 use verdict::Verdict;
-ghost use mathlib.Core.Option.{none};
 ghost use mathlib.Core.Path.{_≡_};
-ghost use Prim.Native.Nat.{ℕ, _<_, _≤_, _^_};
+ghost use Prim.Native.Nat.{_<_, _^_};
 ghost use lib.ListN.{getD};
 ghost use Rattle.seq.specs.Lists.{isSome};
 ghost use Rattle.seq.specs.Tab.{first};
 ghost use Rattle.table.specs.Record.{badPlace, disjointFrom, missing, meetRule, persistRule};
-ghost use Rattle.table.specs.Search.{found, badNumber, lowestBad};
+ghost use Rattle.table.specs.Search.{found, badNumber, lowestBad, InRange};
 ghost use Rattle.verdict.specs.Rules.{refusal, orElse};
 ghost use Rattle.verdict.specs.declared.Verdict.the-variants.{Refused};
 
@@ -60,7 +59,7 @@ fn bad_place(table: Table, k: usize) -> bool
 
 // Rules 5 and 7, of a record whose places and persistent element are in range.
 pub(crate) fn relations(table: Table) -> Verdict
-    requires { ⌜ (lowestBad table ≡ none) × (table .count ≤ 64) × (table .persistent < 2 ^ 25) ⌝ }
+    requires { ⌜ InRange table ⌝ }
     ensures { λ r. ⌜ r ≡ orElse (meetRule table) (persistRule table) ⌝ }
 {
     if let Search::Found(k) = first_disjoint(table) {
@@ -74,7 +73,7 @@ pub(crate) fn relations(table: Table) -> Verdict
 
 // Rule 5.
 fn first_disjoint(table: Table) -> Search
-    requires { ⌜ (lowestBad table ≡ none) × (table .count ≤ 64) ⌝ }
+    requires { ⌜ InRange table ⌝ }
     ensures { λ r. ⌜ found r ≡ first (λ k. isSome (disjointFrom table k)) (table .count) ⌝ }
 {
     let mut k = 0;
@@ -105,7 +104,7 @@ fn disjoint_from(table: Table, k: usize) -> Search
 
 // Rule 7.
 fn first_missing(table: Table) -> Search
-    requires { ⌜ (lowestBad table ≡ none) × (table .count ≤ 64) × (table .persistent < 2 ^ 25) ⌝ }
+    requires { ⌜ InRange table ⌝ }
     ensures { λ r. ⌜ found r ≡ first (missing table) (table .count) ⌝ }
 {
     let mut k = 0;

@@ -5,14 +5,9 @@ use native.Mathlib.Omega.{arith}
 use borrow.Author.Needs.{needs}
 use Rattle.image.specs.Size.{badSize}
 use Rattle.image.proofs.PixelsOf.{pixels-size, pixels-count, pixels-values}
-use Rattle.image.proofs.RowBytes.{product-small, sides}
+use Rattle.image.proofs.RowBytes.{pixels-few, sides}
 use Rattle.image.proofs.check_pixels.Statement.{statement}
 use Rattle.image.proofs.check_pixels.Tie as tie
-use Rattle.image.proofs.check_pixels.Reads as reads
-use Rattle.image.proofs.check_pixels.Lts as lts
-use Rattle.image.proofs.pixels.check_values.Reads as check-values-reads
-use Rattle.image.proofs.refused.Reads as refused-reads
-use Rattle.image.proofs.size.is_bad.Reads as is-bad-reads
 
 good-size : (c : tie.Else1) → badSize (c .before .before .before .args .width) (c .before .before .before .args .height) ≡ false
 good-size c = sym (c .before .is-bad .ensures) ∙ c .if1 .left
@@ -27,7 +22,7 @@ returns : tie.Need-returns
 returns c = c .refused .ensures ∙ sym (pixels-size _ _ _ (sym (c .before .before .is-bad .ensures) ∙ c .before .if1 .taken))
 
 mul-if2 : tie.Need-mul-if2
-mul-if2 c = let s = sides _ _ (good-size c) in omega (arith, product-small (s .narrow) (s .short))
+mul-if2 c = omega (arith, pixels-few (sides _ _ (good-size c)))
 
 refused-requires-2 : tie.Need-refused-requires-2
 refused-requires-2 c κs = search needs

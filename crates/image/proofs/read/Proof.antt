@@ -7,13 +7,9 @@ use borrow.Author.Needs.{needs}
 use Rattle.image.specs.declared.layout.Layout.the-variants.{Image}
 use Rattle.image.specs.Layout.{layoutOf}
 use Rattle.image.proofs.ReadOf.{read-refused, read-sides, read-start, read-length, read-short, read-filled}
-use Rattle.image.proofs.RowBytes.{product-small}
+use Rattle.image.proofs.RowBytes.{pixels-few}
 use Rattle.image.proofs.read.Statement.{statement}
 use Rattle.image.proofs.read.Tie as tie
-use Rattle.image.proofs.read.Reads as reads
-use Rattle.image.proofs.read.Lts as lts
-use Rattle.image.proofs.layout.read.Reads as read-reads
-use Rattle.image.proofs.unpack.image.Reads as image-reads
 
 abbrev bytes : tie.After-found → List ℕ
 bytes c = c .before .before .before .before .before .args .file .now
@@ -28,7 +24,7 @@ enum-known-found : tie.Need-enum-known-found
 enum-known-found c = search needs
 
 mul-if1 : tie.Need-mul-if1
-mul-if1 c = let s = read-sides (bytes (c .before)) (layout-read (c .before)) in omega (arith, product-small (s .narrow) (s .short))
+mul-if1 c = omega (arith, pixels-few (read-sides (bytes (c .before)) (layout-read (c .before))))
 
 returns : tie.Need-returns
 returns c = read-short (bytes (c .before .before)) (layout-read (c .before .before)) _ (c .if1 .taken)
@@ -43,7 +39,9 @@ part-image-end : tie.Need-part-image-end
 part-image-end c = search needs
 
 image-requires : tie.Need-image-requires
-image-requires c κs = let d = c .before .before .before .before in (read-sides (bytes d) (layout-read d), read-length (bytes d) (layout-read d), c .before .before .if1 .left)
+image-requires c κs =
+    let d = c .before .before .before .before in
+    (read-sides (bytes d) (layout-read d), read-length (bytes d) (layout-read d), c .before .before .if1 .left)
 
 enum-known-found-2 : tie.Need-enum-known-found-2
 enum-known-found-2 c = search needs
@@ -52,7 +50,9 @@ same-length : tie.Need-same-length
 same-length c = search needs
 
 returns-2 : tie.Need-returns-2
-returns-2 c = let d = c .before .before .before .before .before .before .before in read-filled (bytes d) (layout-read d) _ (c .before .before .before .before .before .if1 .left) (c .before .before .image .ensures)
+returns-2 c =
+    let d = c .before .before .before .before .before .before .before in
+    read-filled (bytes d) (layout-read d) _ (c .before .before .before .before .before .if1 .left) (c .before .before .image .ensures)
 
 returns-3 : tie.Need-returns-3
 returns-3 c = read-refused _ (sym (c .before .before .before .read .ensures) ∙ c .before .found2 .given .1) _

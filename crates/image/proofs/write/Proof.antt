@@ -7,22 +7,15 @@ use borrow.Author.Needs.{needs}
 use lib.ListN.{length}
 use Rattle.image.specs.File.{pixelVerdict}
 use Rattle.image.specs.Header.{header}
-use Rattle.image.specs.Layout.{Sides}
+use Rattle.image.specs.Rows.{Sides}
 use Rattle.image.specs.Size.{rowBytes}
 use Rattle.image.proofs.Decimal.{decimal-short}
 use Rattle.image.proofs.HeaderWritten.{header-length}
 use Rattle.image.proofs.PixelsOf.{PixelsGood, pixels-good}
-use Rattle.image.proofs.RowBytes.{row-bytes-fit, product-small, sides}
+use Rattle.image.proofs.RowBytes.{raster-few, sides}
 use Rattle.image.proofs.WriteOf.{binary, write-refused, write-short, write-filled}
 use Rattle.image.proofs.write.Statement.{statement}
 use Rattle.image.proofs.write.Tie as tie
-use Rattle.image.proofs.write.Reads as reads
-use Rattle.image.proofs.write.Lts as lts
-use Rattle.image.proofs.check_pixels.Reads as check-pixels-reads
-use Rattle.image.proofs.header.length_of.Reads as length-of-reads
-use Rattle.image.proofs.header.write.Reads as write-reads
-use Rattle.image.proofs.pack.image.Reads as image-reads
-use Rattle.image.proofs.size.row_bytes.Reads as row-bytes-reads
 use Rattle.verdict.specs.declared.Verdict.the-variants.{Accepted}
 
 abbrev w : tie.After-enum-told → ℕ
@@ -45,9 +38,12 @@ both-sides c = sides _ _ (good c .size)
 
 -- the raster's bytes are few
 few : (c : tie.After-row-bytes) → c .row-bytes .result * h (c .before .before) ≤ 65536
-few c = product-small (omega (arith, row-bytes-fit (w (c .before .before)), both-sides (c .before .before))) (both-sides (c .before .before) .short)
+few c = raster-few (both-sides (c .before .before)) (c .row-bytes .ensures)
 
-end-is : (c : tie.After-row-bytes) → c .before .length-of .result + c .row-bytes .result * h (c .before .before) ≡ length (header (w (c .before .before)) (h (c .before .before))) + rowBytes (w (c .before .before)) * h (c .before .before)
+-- the end that the code works out
+end-is : (c : tie.After-row-bytes)
+    → let d = c .before .before in
+    c .before .length-of .result + c .row-bytes .result * h d ≡ length (header (w d) (h d)) + rowBytes (w d) * h d
 end-is c = omega (arith, c .before .length-of .ensures, ap (λ (b : ℕ). b * h (c .before .before)) (c .row-bytes .ensures))
 
 check-pixels-requires : tie.Need-check-pixels-requires
@@ -66,7 +62,9 @@ mul-end : tie.Need-mul-end
 mul-end c = omega (arith, few c)
 
 add-end : tie.Need-add-end
-add-end c = let d = c .before .before in omega (arith, few c, c .before .length-of .ensures, header-length (w d) (h d), decimal-short (w d), decimal-short (h d))
+add-end c =
+    let d = c .before .before in
+    omega (arith, few c, c .before .length-of .ensures, header-length (w d) (h d), decimal-short (w d), decimal-short (h d))
 
 returns : tie.Need-returns
 returns c = write-short _ _ _ (accepted (c .before .before .before)) _ (end-is (c .before)) (c .if1 .taken)
@@ -77,8 +75,9 @@ write-requires c κs = search needs
 image-requires : tie.Need-image-requires
 image-requires c κs =
     let t = c .before .before .before in
-    let d = t .before .before .before .before .before in
-    (both-sides d, binary (good d), good d .count, omega (arith, t .before .before .if1 .left, t .write .kept .1 .1 .0, end-is (t .before .before .before), c .before .before .before .before .before .before .before .length-of .ensures))
+    let r = t .before .before .before in
+    let d = r .before .before in
+    (both-sides d, binary (good d), good d .count, omega (arith, t .before .before .if1 .left, t .write .kept .1 .1 .0, end-is r, r .before .length-of .ensures))
 
 enum-known-checked : tie.Need-enum-known-checked
 enum-known-checked c = search needs
@@ -90,7 +89,8 @@ returns-2 : tie.Need-returns-2
 returns-2 c =
     let t = c .before .before .before .before .before .before in
     let r = t .before .before .before in
-    write-filled _ _ _ (accepted (r .before .before)) _ (end-is r) (t .before .before .if1 .left) (t .write .ensures) (r .before .length-of .ensures) (c .before .before .image .ensures)
+    write-filled _ _ _ (accepted (r .before .before)) _ (end-is r) (t .before .before .if1 .left) (t .write .ensures) (r .before .length-of .ensures)
+    (c .before .before .image .ensures)
 
 returns-3 : tie.Need-returns-3
 returns-3 c = write-refused _ _ _ (sym (c .before .before .before .check-pixels .ensures) ∙ c .before .checked .given .1) _

@@ -1,7 +1,7 @@
 -- `check` meets its contract: the first rule that fails speaks.
 -- Assumes nothing.
 use mathlib.Core.Bool.{false, not}
-use mathlib.Core.Option.{none, some}
+use mathlib.Core.Option.{none}
 use mathlib.Core.Path.{_≡_, sym, ap, _∙_}
 use native.Mathlib.Omega.{arith}
 use borrow.Author.Needs.{needs}
@@ -36,14 +36,14 @@ returns c = c .refused .ensures ∙ sym (record-count _ (sym (c .before .before 
 first-bad-place-requires : tie.Need-first-bad-place-requires
 first-bad-place-requires c κs = search needs
 
-enum-known-bad : tie.Need-enum-known-bad
-enum-known-bad c = search needs
+enum-known-k : tie.Need-enum-known-k
+enum-known-k c = search needs
 
 add-refused : tie.Need-add-refused
 unfolding lowestBad
 add-refused c =
     let t = c .before .before .before .before .before .before .args .table in
-    omega (arith, search-lt (badPlace t) 64 (c .before .before .before .first-bad-place .ensures) (c .before .bad .given .1))
+    omega (arith, search-lt (badPlace t) 64 (c .before .before .before .first-bad-place .ensures) (c .before .k .given .1))
 
 refused-requires-2 : tie.Need-refused-requires-2
 refused-requires-2 c κs = search needs
@@ -52,7 +52,7 @@ returns-2 : tie.Need-returns-2
 returns-2 c =
     c .refused2 .ensures
     ∙ sym (record-place _ (counted (c .before .before .before .before .before)) _
-    (sym (c .before .before .before .before .first-bad-place .ensures) ∙ ap found (c .before .before .bad .given .1)))
+    (sym (c .before .before .before .before .first-bad-place .ensures) ∙ ap found (c .before .before .k .given .1)))
 
 enum-told : tie.Need-enum-told
 enum-told c = search needs
@@ -76,7 +76,7 @@ returns-3 c =
 relations-requires : tie.Need-relations-requires
 relations-requires c κs =
     let told = c .before .before in
-    (placed told, count-le _ (counted (told .before .before .before)), mask-lt _ (not-false _ (valid c)))
+    record { few = count-le _ (counted (told .before .before .before)); placed = placed told; masked = mask-lt _ (not-false _ (valid c)) }
 
 returns-4 : tie.Need-returns-4
 returns-4 c =
@@ -91,7 +91,7 @@ check-spec =
     refused-requires
     returns
     first-bad-place-requires
-    enum-known-bad
+    enum-known-k
     add-refused
     refused-requires-2
     returns-2

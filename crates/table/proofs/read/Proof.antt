@@ -2,8 +2,8 @@
 -- Assumes nothing.
 use mathlib.Core.Path.{sym, _∙_}
 use borrow.Author.Needs.{needs}
+use Rattle.table.proofs.Cursor.{rules-refused, rules-read}
 use Rattle.table.proofs.Files.{read-by, file-number}
-use Rattle.table.proofs.Judging.{rules-refused, rules-read}
 use Rattle.table.proofs.read.Statement.{statement}
 use Rattle.table.proofs.read.Tie as tie
 

@@ -1,11 +1,11 @@
 -- `filter::walk::walk_row` meets its contract. Assumes nothing.
-use Prim.Native.Nat.{_+_, _-_, _*_, _<_}
+use Prim.Native.Nat.{_+_, _-_, _*_, _≤_, _<_, zero-le}
 use native.Mathlib.Nat.{add-zero, le-antisymm}
 use native.Mathlib.Omega.{arith}
 use borrow.Author.Needs.{needs}
 use lib.ListN.{length}
 use Rattle.seq.proofs.Grid.{cell-below}
-use Rattle.seq.proofs.Rows.{Stored, stored-none, stored-more, stored-length, stored-all}
+use Rattle.seq.proofs.Stores.{Stored, stored-none, stored-more, stored-length, stored-all}
 use Rattle.filter.specs.Walk.{walkedAt, Tallied}
 use Rattle.filter.proofs.PassCodeWalk.{tally-more, tally-le}
 use Rattle.filter.proofs.WindowLaws.{binary-at}
@@ -18,7 +18,8 @@ use Rattle.filter.proofs.walk.judged.Reads as judged-reads
 
 abbrev Inv-loop : tie.InvT-loop
 Inv-loop elements width height pixels map row next₀ start added₀ removed₀ col₀ next added removed col =
-    Stored (walkedAt elements width height pixels map row) next₀ next start col width
+    (col ≤ width)
+    × Stored (walkedAt elements width height pixels map row) next₀ start next col
     × Tallied elements width height pixels map (start + col) added removed
 
 abbrev μ-loop : tie.MeasureT-loop
@@ -34,7 +35,7 @@ mul-start : tie.Need-mul-start Inv-loop μ-loop
 mul-start c = search needs
 
 loop-holds : tie.Need-loop-holds Inv-loop μ-loop
-loop-holds c = (stored-none _ _ _ _, rw (add-zero) (c .before .before .before .before .pre .3))
+loop-holds c = (zero-le, stored-none _ _ _, rw (add-zero) (c .before .before .before .before .pre .3))
 
 add-at : tie.Need-add-at Inv-loop μ-loop
 add-at c = search needs
@@ -54,19 +55,19 @@ judged-requires c κs =
     )
 
 slice-write-next : tie.Need-slice-write-next Inv-loop μ-loop
-slice-write-next c = omega (arith, stored-length (c .before .before .before .loop .inv .0))
+slice-write-next c = omega (arith, stored-length (c .before .before .before .loop .inv .1))
 
 is-step-requires : tie.Need-is-step-requires Inv-loop μ-loop
 is-step-requires c κs = search needs
 
 add-added : tie.Need-add-added Inv-loop μ-loop
-add-added c = omega (arith, tally-le (c .before .before .before .before .loop .inv .1))
+add-added c = omega (arith, tally-le (c .before .before .before .before .loop .inv .2))
 
 is-step-requires-2 : tie.Need-is-step-requires-2 Inv-loop μ-loop
 is-step-requires-2 c κs = search needs
 
 add-removed : tie.Need-add-removed Inv-loop μ-loop
-add-removed c = omega (arith, tally-le (c .before .before .before .before .before .loop .inv .1))
+add-removed c = omega (arith, tally-le (c .before .before .before .before .before .loop .inv .2))
 
 add-col : tie.Need-add-col Inv-loop μ-loop
 add-col c = search needs
@@ -79,18 +80,18 @@ unfolding walkedAt
 loop-again c =
     let l = c .before .before .before .before .before in
     let t = c .before .before .before .before .loop-test .taken in (
-      stored-more (l .loop .inv .0) t (c .before .before .judged .ensures),
-      tally-more _ _ _ _ _ _ (l .loop .inv .1) t (c .before .before .judged .ensures) (c .before .is-step .ensures .0) (c .is-step2 .ensures .0),
+      search needs,
+      stored-more (l .loop .inv .1) (c .before .before .judged .ensures),
+      tally-more _ _ _ _ _ _ (l .loop .inv .2) t (c .before .before .judged .ensures) (c .before .is-step .ensures .0) (c .is-step2 .ensures .0),
     )
 
 same-length : tie.Need-same-length Inv-loop μ-loop
-same-length c = stored-length (c .before .loop .inv .0)
+same-length c = stored-length (c .before .loop .inv .1)
 
 returns : tie.Need-returns Inv-loop μ-loop
-returns c = (
-  stored-all (c .before .loop .inv .0) (c .loop-test .left),
-  rw (le-antisymm (c .before .loop .inv .0 .within) (c .loop-test .left)) at (c .before .loop .inv .1),
-)
+returns c =
+    let e = le-antisymm (c .before .loop .inv .0) (c .loop-test .left) in
+    (stored-all _ (c .before .loop .inv .1) e, rw e at (c .before .loop .inv .2))
 
 pub walk-row-spec : {M : Type 1} → statement M
 walk-row-spec =

@@ -5,9 +5,6 @@ use Rattle.image.proofs.Decimal.{decimal-short}
 use Rattle.image.proofs.HeaderWritten.{header-length}
 use Rattle.image.proofs.header.length_of.Statement.{statement}
 use Rattle.image.proofs.header.length_of.Tie as tie
-use Rattle.image.proofs.header.length_of.Reads as reads
-use Rattle.image.proofs.header.length_of.Lts as lts
-use Rattle.image.proofs.number.length_of.Reads as length-of-reads
 
 length-of-requires : tie.Need-length-of-requires
 length-of-requires c κs = search needs

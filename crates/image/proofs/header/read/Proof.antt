@@ -9,17 +9,14 @@ use Rattle.image.specs.Layout.{numberAt}
 use Rattle.image.proofs.HeaderOf.{no-magic, no-width, no-height, header-found}
 use Rattle.image.proofs.header.read.Statement.{statement}
 use Rattle.image.proofs.header.read.Tie as tie
-use Rattle.image.proofs.header.read.Reads as reads
-use Rattle.image.proofs.header.read.Lts as lts
-use Rattle.image.proofs.header.starts_magic.Reads as starts-magic-reads
-use Rattle.image.proofs.number.read.Reads as read-reads
 
 -- the file starts as it should
 magic : (c : tie.Else1) → startsMagic (c .before .before .before .args .file .now) ≡ true
 magic c = sym (c .before .starts-magic .ensures) ∙ not-false _ (c .if1 .left)
 
 -- the width that was read
-width : (c : tie.After-first) → numberAt (c .before .before .before .before .before .before .args .file .now) 3 space ≡ Value (c .first .given .0 .0) (c .first .given .0 .1 .0)
+width : (c : tie.After-first)
+    → numberAt (c .before .before .before .before .before .before .args .file .now) 3 space ≡ Value (c .first .given .0 .0) (c .first .given .0 .1 .0)
 width c = sym (c .before .before .read .ensures) ∙ c .first .given .1
 
 starts-magic-requires : tie.Need-starts-magic-requires

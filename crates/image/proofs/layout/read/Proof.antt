@@ -6,19 +6,14 @@ use Prim.Native.Nat.{ℕ, _*_}
 use native.Mathlib.Omega.{arith}
 use borrow.Author.Needs.{needs}
 use Rattle.image.specs.declared.header.Header.the-variants.{Found}
-use Rattle.image.specs.Layout.{headerOf, Sides}
+use Rattle.image.specs.Layout.{headerOf, layoutIf, layoutOf}
+use Rattle.image.specs.Rows.{Sides}
 use Rattle.image.specs.Size.{badSize}
 use Rattle.image.proofs.LayoutOf.{layout-header, layout-start, layout-size, layout-length, layout-rows}
-use Rattle.image.proofs.RowBytes.{row-bytes-fit, product-small, sides}
+use Rattle.image.proofs.RowBytes.{raster-few, sides}
 use Rattle.image.proofs.layout.read.Statement.{statement}
 use Rattle.image.proofs.layout.read.Tie as tie
-use Rattle.image.proofs.layout.read.Reads as reads
-use Rattle.image.proofs.layout.read.Lts as lts
-use Rattle.image.proofs.header.read.Reads as read-reads
-use Rattle.image.proofs.layout.refused.Reads as refused-reads
-use Rattle.image.proofs.raster.check_padding.Reads as check-padding-reads
-use Rattle.image.proofs.size.is_bad.Reads as is-bad-reads
-use Rattle.image.proofs.size.row_bytes.Reads as row-bytes-reads
+use Rattle.verdict.specs.declared.Verdict.{Verdict}
 
 abbrev bytes : tie.After-found → List ℕ
 bytes c = c .before .before .before .before .args .file .now
@@ -40,6 +35,15 @@ good-size c = sym (c .before .is-bad .ensures) ∙ c .if1 .left
 
 both-sides : (c : tie.Else1) → Sides (width (c .before .before .before)) (height (c .before .before .before))
 both-sides c = sides _ _ (good-size c)
+
+-- the verdict on the rows is the file's
+by-rows : (c : tie.After-check-padding) {v : Verdict} → c .check-padding .result ≡ v
+    → let d = c .before .before .before .before .before .before .before in
+    layoutOf (bytes d) ≡ layoutIf v (width d) (height d) (start d)
+by-rows c e =
+    let r = c .before .before in
+    let read = header-read (r .before .before .before .before .before) in
+    layout-rows _ _ _ _ read _ (r .row-bytes .ensures) (good-size (r .before .before)) (c .before .if2 .left) (sym e ∙ c .check-padding .ensures)
 
 read-requires : tie.Need-read-requires
 read-requires c κs = search needs
@@ -63,7 +67,9 @@ refused-requires-2 : tie.Need-refused-requires-2
 refused-requires-2 c κs = search needs
 
 returns-2 : tie.Need-returns-2
-returns-2 c = c .refused2 .ensures ∙ sym (layout-size _ _ _ _ (header-read (c .before .before .before .before)) (sym (c .before .before .is-bad .ensures) ∙ c .before .if1 .taken))
+returns-2 c =
+    let d = c .before .before in
+    c .refused2 .ensures ∙ sym (layout-size _ _ _ _ (header-read (d .before .before)) (sym (d .is-bad .ensures) ∙ c .before .if1 .taken))
 
 sub-raster : tie.Need-sub-raster
 sub-raster c = layout-start _ _ _ _ (header-read (c .before .before .before))
@@ -78,16 +84,21 @@ row-bytes-requires : tie.Need-row-bytes-requires
 row-bytes-requires c κs = both-sides (c .before) .narrow
 
 mul-if2 : tie.Need-mul-if2
-mul-if2 c = omega (arith, product-small {a = c .row-bytes .result} (omega (arith, row-bytes-fit (width (c .before .before .before .before .before)), both-sides (c .before .before))) (both-sides (c .before .before) .short))
+mul-if2 c = omega (arith, raster-few (both-sides (c .before .before)) (c .row-bytes .ensures))
 
 refused-requires-3 : tie.Need-refused-requires-3
 refused-requires-3 c κs = search needs
 
 returns-3 : tie.Need-returns-3
-returns-3 c = let d = c .before .before in c .refused3 .ensures ∙ sym (layout-length _ _ _ _ (header-read (d .before .before .before .before .before)) _ (d .row-bytes .ensures) (good-size (d .before .before)) (c .before .if2 .taken))
+returns-3 c =
+    let d = c .before .before in
+    let read = header-read (d .before .before .before .before .before) in
+    c .refused3 .ensures ∙ sym (layout-length _ _ _ _ read _ (d .row-bytes .ensures) (good-size (d .before .before)) (c .before .if2 .taken))
 
 check-padding-requires : tie.Need-check-padding-requires
-check-padding-requires c κs = (both-sides (c .before .before .before), c .if2 .left ∙ ap (λ (b : ℕ). b * height (c .before .before .before .before .before .before)) (c .before .row-bytes .ensures))
+check-padding-requires c κs =
+    let d = c .before .before .before in
+    (both-sides d, c .if2 .left ∙ ap (λ (b : ℕ). b * height (d .before .before .before)) (c .before .row-bytes .ensures))
 
 enum-told-2 : tie.Need-enum-told-2
 enum-told-2 c = search needs
@@ -96,10 +107,10 @@ enum-known-padding : tie.Need-enum-known-padding
 enum-known-padding c = search needs
 
 returns-4 : tie.Need-returns-4
-returns-4 c = let d = c .before .before .before in sym (layout-rows _ _ _ _ (header-read (d .before .before .before .before .before .before)) _ (d .before .row-bytes .ensures) (good-size (d .before .before .before)) (d .if2 .left) (sym (c .enum-told2 .given .1) ∙ c .before .before .check-padding .ensures))
+returns-4 c = sym (by-rows (c .before .before) (c .enum-told2 .given .1))
 
 returns-5 : tie.Need-returns-5
-returns-5 c = let d = c .before .before .before .before in sym (layout-rows _ _ _ _ (header-read (d .before .before .before .before .before .before)) _ (d .before .row-bytes .ensures) (good-size (d .before .before .before)) (d .if2 .left) (sym (c .before .padding .given .1) ∙ c .before .before .before .check-padding .ensures))
+returns-5 c = sym (by-rows (c .before .before .before) (c .before .padding .given .1))
 
 pub read-spec : {M : Type 1} → statement M
 read-spec =

@@ -11,9 +11,6 @@ use Rattle.image.specs.Header.{digits}
 use Rattle.image.proofs.Digits.{digits-end, digits-stop, digits-more}
 use Rattle.image.proofs.number.digits_end.Statement.{statement}
 use Rattle.image.proofs.number.digits_end.Tie as tie
-use Rattle.image.proofs.number.digits_end.Reads as reads
-use Rattle.image.proofs.number.digits_end.Lts as lts
-use Rattle.image.proofs.number.is_digit.Reads as is-digit-reads
 
 abbrev Inv-loop : tie.InvT-loop
 Inv-loop file at i₀ i = i + digits (drop i file) ≡ at + digits (drop at file)
@@ -34,7 +31,9 @@ is-digit-requires : tie.Need-is-digit-requires Inv-loop μ-loop
 is-digit-requires c κs = search needs
 
 returns : tie.Need-returns Inv-loop μ-loop
-returns c = omega (arith, digits-stop (bytes (c .before)) _ (c .before .before .before .loop-test .taken) (sym (c .before .is-digit .ensures) ∙ not-true _ (c .if1 .taken)))
+returns c =
+    let no = sym (c .before .is-digit .ensures) ∙ not-true _ (c .if1 .taken) in
+    omega (arith, digits-stop (bytes (c .before)) _ (c .before .before .before .loop-test .taken) no)
 
 add-i : tie.Need-add-i Inv-loop μ-loop
 add-i c = search needs
@@ -43,7 +42,9 @@ loop-less : tie.Need-loop-less Inv-loop μ-loop
 loop-less c = search needs
 
 loop-again : tie.Need-loop-again Inv-loop μ-loop
-loop-again c = omega (arith, digits-more (bytes (c .before)) _ (c .before .before .before .loop-test .taken) (sym (c .before .is-digit .ensures) ∙ not-false _ (c .if1 .left)))
+loop-again c =
+    let yes = sym (c .before .is-digit .ensures) ∙ not-false _ (c .if1 .left) in
+    omega (arith, digits-more (bytes (c .before)) _ (c .before .before .before .loop-test .taken) yes)
 
 returns-2 : tie.Need-returns-2 Inv-loop μ-loop
 returns-2 c = omega (arith, digits-end (c .before .before .before .args .file .now) _ (c .loop-test .left))

@@ -15,5 +15,3 @@ returns-2 c = simp (lt-leb _ _ (c .if1 .left))
 
 pub is-digit-spec : {M : Type 1} → statement M
 is-digit-spec = tie.close (tie.spec returns returns-2)
-
--- x

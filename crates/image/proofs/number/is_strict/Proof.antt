@@ -9,9 +9,6 @@ use lib.ListN.{drop}
 use Rattle.image.proofs.Digits.{strict-none, strict-many, strict-one, strict-more}
 use Rattle.image.proofs.number.is_strict.Statement.{statement}
 use Rattle.image.proofs.number.is_strict.Tie as tie
-use Rattle.image.proofs.number.is_strict.Reads as reads
-use Rattle.image.proofs.number.is_strict.Lts as lts
-use Rattle.image.proofs.number.byte_at.Reads as byte-at-reads
 
 abbrev bytes : tie.After-shared-slice-known → List ℕ
 bytes c = drop (c .before .args .at) (c .before .args .file .now)

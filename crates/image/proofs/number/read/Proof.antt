@@ -11,12 +11,6 @@ use Rattle.image.specs.Header.{strict}
 use Rattle.image.proofs.NumberAt.{byte-within, strict-count, number-loose, number-other, number-value}
 use Rattle.image.proofs.number.read.Statement.{statement}
 use Rattle.image.proofs.number.read.Tie as tie
-use Rattle.image.proofs.number.read.Reads as reads
-use Rattle.image.proofs.number.read.Lts as lts
-use Rattle.image.proofs.number.byte_at.Reads as byte-at-reads
-use Rattle.image.proofs.number.digits_end.Reads as digits-end-reads
-use Rattle.image.proofs.number.is_strict.Reads as is-strict-reads
-use Rattle.image.proofs.number.value.Reads as value-reads
 
 abbrev bytes : tie.Else1 → List ℕ
 bytes c = c .before .before .before .before .args .file .now
@@ -43,7 +37,9 @@ returns-2 c =
     sym (number-other (bytes d) _ _ _ _ (d .before .before .digits-end .ensures) (c .before .byte-at .ensures) (strict-here d) (c .if2 .taken))
 
 value-requires : tie.Need-value-requires
-value-requires c κs = let d = c .before .before in (d .before .before .digits-end .ensures, omega (arith, strict-count _ (strict-here d), d .before .before .digits-end .ensures))
+value-requires c κs =
+    let e = c .before .before .before .before .digits-end .ensures in
+    (e, omega (arith, strict-count _ (strict-here (c .before .before))))
 
 add-t9 : tie.Need-add-t9
 add-t9 c =
@@ -53,7 +49,8 @@ add-t9 c =
 returns-3 : tie.Need-returns-3
 returns-3 c =
     let d = c .before .before .before in
-    sym (number-value (bytes d) _ _ _ _ (d .before .before .digits-end .ensures) (c .before .before .byte-at .ensures) (strict-here d) (c .before .if2 .left) _ (c .value .ensures))
+    let e = d .before .before .digits-end .ensures in
+    sym (number-value (bytes d) _ _ _ _ e (c .before .before .byte-at .ensures) (strict-here d) (c .before .if2 .left) _ (c .value .ensures))
 
 pub read-spec : {M : Type 1} → statement M
 read-spec =

@@ -9,8 +9,6 @@ use Rattle.image.specs.Header.{isDigit}
 use Rattle.image.proofs.Digits.{digits-file, digit-range, digit-within, Valued, value-none, value-more, value-small, value-all}
 use Rattle.image.proofs.number.value.Statement.{statement}
 use Rattle.image.proofs.number.value.Tie as tie
-use Rattle.image.proofs.number.value.Reads as reads
-use Rattle.image.proofs.number.value.Lts as lts
 
 abbrev Inv-loop : tie.InvT-loop
 Inv-loop file at end n₀ i₀ n i = Valued file at end n i

@@ -7,9 +7,6 @@ use lib.ListN.{length, length-set}
 use Rattle.image.proofs.Decimal.{decimal-one, decimal-two, decimal-three, wrote-one, wrote-two, wrote-three}
 use Rattle.image.proofs.number.write.Statement.{statement}
 use Rattle.image.proofs.number.write.Tie as tie
-use Rattle.image.proofs.number.write.Reads as reads
-use Rattle.image.proofs.number.write.Lts as lts
-use Rattle.image.proofs.number.digit.Reads as digit-reads
 
 -- the digits lie in the output
 one : (c : tie.Then1) → c .before .before .args .at + 1 ≤ length (c .before .before .args .out .now)

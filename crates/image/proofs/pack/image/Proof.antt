@@ -5,10 +5,6 @@ use borrow.Author.Needs.{needs}
 use Rattle.image.proofs.PackedRows.{ImagePacked, rows-none, rows-fit, rows-more, rows-all}
 use Rattle.image.proofs.pack.image.Statement.{statement}
 use Rattle.image.proofs.pack.image.Tie as tie
-use Rattle.image.proofs.pack.image.Reads as reads
-use Rattle.image.proofs.pack.image.Lts as lts
-use Rattle.image.proofs.pack.pack_row.Reads as pack-row-reads
-use Rattle.image.proofs.size.row_bytes.Reads as row-bytes-reads
 use Rattle.seq.proofs.Stores.{stored-length}
 
 abbrev Inv-loop : tie.InvT-loop
@@ -24,13 +20,20 @@ loop-holds : tie.Need-loop-holds Inv-loop μ-loop
 loop-holds c = rows-none _ _ _ _ _ (c .row-bytes .ensures)
 
 pack-row-requires : tie.Need-pack-row-requires Inv-loop μ-loop
-pack-row-requires c κs = let s = c .before .before .before .before .before .before in let f = rows-fit (c .before .before .loop .inv) (c .before .loop-test .taken) in (s .pre .1, s .pre .0 .narrow, omega arith, omega (arith, stored-length (c .before .before .loop .inv .rows)))
+pack-row-requires c κs =
+    let s = c .before .before .before .before .before .before in
+    let f = rows-fit (c .before .before .loop .inv) (c .before .loop-test .taken) in
+    (s .pre .1, s .pre .0 .narrow, omega arith, omega (arith, stored-length (c .before .before .loop .inv .rows)))
 
 add-from : tie.Need-add-from Inv-loop μ-loop
-add-from c = omega (arith, rows-fit (c .before .before .before .before .before .loop .inv) (c .before .before .before .before .loop-test .taken), c .before .before .before .before .before .before .before .before .before)
+add-from c =
+    let l = c .before .before .before .before .before in
+    omega (arith, rows-fit (l .loop .inv) (c .before .before .before .before .loop-test .taken), l .before .before .before .before)
 
 add-to : tie.Need-add-to Inv-loop μ-loop
-add-to c = omega (arith, rows-fit (c .before .before .before .before .before .loop .inv) (c .before .before .before .before .loop-test .taken), c .before .before .before .before .before .before .before .before .before)
+add-to c =
+    let l = c .before .before .before .before .before in
+    omega (arith, rows-fit (l .loop .inv) (c .before .before .before .before .loop-test .taken), l .before .before .before .before)
 
 add-row : tie.Need-add-row Inv-loop μ-loop
 add-row c = search needs
@@ -39,7 +42,9 @@ loop-less : tie.Need-loop-less Inv-loop μ-loop
 loop-less c = search needs
 
 loop-again : tie.Need-loop-again Inv-loop μ-loop
-loop-again c = rows-more (c .before .before .before .before .before .loop .inv) (c .before .before .before .before .loop-test .taken) (c .before .before .pack-row .ensures)
+loop-again c =
+    let l = c .before .before .before .before in
+    rows-more (l .before .loop .inv) (l .loop-test .taken) (c .before .before .pack-row .ensures)
 
 same-length : tie.Need-same-length Inv-loop μ-loop
 same-length c = stored-length (c .before .loop .inv .rows)

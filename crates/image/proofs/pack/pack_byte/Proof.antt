@@ -2,13 +2,10 @@
 use Prim.Native.Nat.{_-_}
 use native.Mathlib.Omega.{arith}
 use borrow.Author.Needs.{needs}
-use Rattle.image.specs.Layout.{pixelIn}
+use Rattle.image.specs.Rows.{pixelIn}
 use Rattle.image.proofs.Packed.{Packing, packing-none, packing-more, packing-all, packing-small, pixel-small}
 use Rattle.image.proofs.pack.pack_byte.Statement.{statement}
 use Rattle.image.proofs.pack.pack_byte.Tie as tie
-use Rattle.image.proofs.pack.pack_byte.Reads as reads
-use Rattle.image.proofs.pack.pack_byte.Lts as lts
-use Rattle.image.proofs.pack.pixel_in.Reads as pixel-in-reads
 
 abbrev Inv-loop : tie.InvT-loop
 Inv-loop pixels from count byte₀ k₀ byte k = Packing (pixelIn pixels from count) byte k
@@ -26,7 +23,10 @@ pixel-in-requires : tie.Need-pixel-in-requires Inv-loop μ-loop
 pixel-in-requires c κs = search needs
 
 add-byte : tie.Need-add-byte Inv-loop μ-loop
-add-byte c = let p = pixel-small (c .before .before .before .before .pre .0) in omega (arith, packing-small (c .before .before .loop .inv) (c .before .loop-test .taken) (p _ _), p (c .before .before .before .before .args .from) (c .before .before .before .before .args .count) (c .before .before .loop .k))
+add-byte c =
+    let s = c .before .before .before .before in
+    let p = pixel-small (s .pre .0) (s .args .from) (s .args .count) in
+    omega (arith, packing-small (c .before .before .loop .inv) (c .before .loop-test .taken) p, p (c .before .before .loop .k))
 
 add-k : tie.Need-add-k Inv-loop μ-loop
 add-k c = search needs

@@ -6,9 +6,6 @@ use lib.ListN.{length-set}
 use Rattle.image.proofs.Packed.{RowPacked, pack-none, pack-within, pack-more, pack-rest, pack-all}
 use Rattle.image.proofs.pack.pack_row.Statement.{statement}
 use Rattle.image.proofs.pack.pack_row.Tie as tie
-use Rattle.image.proofs.pack.pack_row.Reads as reads
-use Rattle.image.proofs.pack.pack_row.Lts as lts
-use Rattle.image.proofs.pack.pack_byte.Reads as pack-byte-reads
 use Rattle.seq.proofs.Stores.{stored-length}
 
 abbrev Inv-loop : tie.InvT-loop

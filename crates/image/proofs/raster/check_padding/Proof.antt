@@ -1,18 +1,11 @@
 -- `image::raster::check_padding` meets its contract. Assumes nothing.
-use mathlib.Core.Path.{sym, ap}
-use mathlib.Core.Option.{Option}
-use Prim.Native.Nat.{ℕ, _-_}
+use Prim.Native.Nat.{_-_}
 use native.Mathlib.Omega.{arith}
 use borrow.Author.Needs.{needs}
 use Rattle.image.proofs.Padding.{Padded, padded-none, padded-more, padded-within, padded-found, padded-all}
 use Rattle.image.proofs.RowBytes.{row-bytes-fit}
-use Rattle.verdict.specs.Rules.{refuseAt}
 use Rattle.image.proofs.raster.check_padding.Statement.{statement}
 use Rattle.image.proofs.raster.check_padding.Tie as tie
-use Rattle.image.proofs.raster.check_padding.Reads as reads
-use Rattle.image.proofs.raster.check_padding.Lts as lts
-use Rattle.image.proofs.raster.padding_mask.Reads as padding-mask-reads
-use Rattle.image.proofs.size.row_bytes.Reads as row-bytes-reads
 
 abbrev Inv-loop : tie.InvT-loop
 Inv-loop raster width height bytes mask last₀ row₀ last row = Padded width raster bytes mask last row
@@ -33,10 +26,12 @@ loop-holds : tie.Need-loop-holds Inv-loop μ-loop
 loop-holds c = padded-none _ (c .before .row-bytes .ensures) (c .padding-mask .ensures)
 
 shared-slice-read-if1 : tie.Need-shared-slice-read-if1 Inv-loop μ-loop
-shared-slice-read-if1 c = let s = c .before .before .before .before .before .before in padded-within (c .before .before .loop .inv) (s .pre .0) (s .pre .1) (c .before .loop-test .taken)
+shared-slice-read-if1 c =
+    let s = c .before .before .before .before .before .before in
+    padded-within (c .before .before .loop .inv) (s .pre .0) (s .pre .1) (c .before .loop-test .taken)
 
 returns : tie.Need-returns Inv-loop μ-loop
-returns c = sym (ap (λ (o : Option ℕ). refuseAt o 12 (λ row. row)) (padded-found (c .before .before .before .loop .inv) _ (c .before .before .loop-test .taken) (c .if1 .taken)))
+returns c = padded-found (c .before .before .before .loop .inv) (c .before .before .loop-test .taken) (c .if1 .taken)
 
 add-last : tie.Need-add-last Inv-loop μ-loop
 add-last c = omega (arith, shared-slice-read-if1 (c .before), row-bytes-fit (c .before .before .before .before .before .before .before .args .width))
@@ -51,7 +46,7 @@ loop-again : tie.Need-loop-again Inv-loop μ-loop
 loop-again c = padded-more (c .before .before .before .loop .inv) (c .if1 .left)
 
 returns-2 : tie.Need-returns-2 Inv-loop μ-loop
-returns-2 c = sym (ap (λ (o : Option ℕ). refuseAt o 12 (λ row. row)) (padded-all (c .before .loop .inv) _ (c .loop-test .left)))
+returns-2 c = padded-all (c .before .loop .inv) (c .loop-test .left)
 
 pub check-padding-spec : {M : Type 1} → statement M
 check-padding-spec =

@@ -2,14 +2,9 @@
 use Prim.Native.Nat.{_-_}
 use native.Mathlib.Omega.{arith}
 use borrow.Author.Needs.{needs}
-use Rattle.image.proofs.RowBytes.{product-small}
 use Rattle.image.proofs.Unpacked.{ImageDone, image-none, image-fits, image-more, image-all}
 use Rattle.image.proofs.unpack.image.Statement.{statement}
 use Rattle.image.proofs.unpack.image.Tie as tie
-use Rattle.image.proofs.unpack.image.Reads as reads
-use Rattle.image.proofs.unpack.image.Lts as lts
-use Rattle.image.proofs.size.row_bytes.Reads as row-bytes-reads
-use Rattle.image.proofs.unpack.unpack_row.Reads as unpack-row-reads
 use Rattle.seq.proofs.Tab.{fill-length}
 
 abbrev Inv-loop : tie.InvT-loop
@@ -28,10 +23,14 @@ unpack-row-requires : tie.Need-unpack-row-requires Inv-loop μ-loop
 unpack-row-requires c κs = omega (arith, image-fits (c .before .before .loop .inv) (c .before .loop-test .taken), fill-length (c .before .before .loop .inv .rows))
 
 add-from : tie.Need-add-from Inv-loop μ-loop
-add-from c = omega (arith, image-fits (c .before .before .before .before .before .loop .inv) (c .before .before .before .before .loop-test .taken), c .before .before .before .before .before .before .before .before .before)
+add-from c =
+    let l = c .before .before .before .before .before in
+    omega (arith, image-fits (l .loop .inv) (c .before .before .before .before .loop-test .taken), l .before .before .before .before)
 
 add-to : tie.Need-add-to Inv-loop μ-loop
-add-to c = omega (arith, image-fits (c .before .before .before .before .before .loop .inv) (c .before .before .before .before .loop-test .taken), c .before .before .before .before .before .before .before .before .before)
+add-to c =
+    let l = c .before .before .before .before .before in
+    omega (arith, image-fits (l .loop .inv) (c .before .before .before .before .loop-test .taken), l .before .before .before .before)
 
 add-row : tie.Need-add-row Inv-loop μ-loop
 add-row c = search needs
@@ -40,7 +39,9 @@ loop-less : tie.Need-loop-less Inv-loop μ-loop
 loop-less c = search needs
 
 loop-again : tie.Need-loop-again Inv-loop μ-loop
-loop-again c = image-more (c .before .before .before .before .before .loop .inv) (c .before .before .before .before .loop-test .taken) (c .before .before .before .before .before .before .before .before .before .pre .2) (c .before .before .unpack-row .ensures)
+loop-again c =
+    let l = c .before .before .before .before .before in
+    image-more (l .loop .inv) (c .before .before .before .before .loop-test .taken) (l .before .before .before .before .pre .2) (c .before .before .unpack-row .ensures)
 
 same-length : tie.Need-same-length Inv-loop μ-loop
 same-length c = fill-length (c .before .loop .inv .rows)

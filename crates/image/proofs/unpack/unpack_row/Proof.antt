@@ -6,9 +6,6 @@ use borrow.Author.Needs.{needs}
 use Rattle.image.proofs.Unpacked.{RowDone, row-none, row-byte, row-more, row-rest, row-all}
 use Rattle.image.proofs.unpack.unpack_row.Statement.{statement}
 use Rattle.image.proofs.unpack.unpack_row.Tie as tie
-use Rattle.image.proofs.unpack.unpack_row.Reads as reads
-use Rattle.image.proofs.unpack.unpack_row.Lts as lts
-use Rattle.image.proofs.unpack.unpack_byte.Reads as unpack-byte-reads
 use Rattle.seq.proofs.Stores.{stored-length}
 
 abbrev Inv-loop : tie.InvT-loop
@@ -42,7 +39,9 @@ loop-less : tie.Need-loop-less Inv-loop μ-loop
 loop-less c = search needs
 
 loop-again : tie.Need-loop-again Inv-loop μ-loop
-loop-again c = row-more (c .before .before .before .before .before .before .loop .inv) (c .before .before .before .before .before .loop-test .taken) (c .before .before .unpack-byte .ensures)
+loop-again c =
+    let l = c .before .before .before .before .before in
+    row-more (l .before .loop .inv) (l .loop-test .taken) (c .before .before .unpack-byte .ensures)
 
 shared-slice-read-unpack-byte-2 : tie.Need-shared-slice-read-unpack-byte-2 Inv-loop μ-loop
 shared-slice-read-unpack-byte-2 c = omega (arith, row-byte (c .before .before .before .loop .inv) (c .before .if1 .taken))
@@ -60,7 +59,9 @@ same-length : tie.Need-same-length Inv-loop μ-loop
 same-length c = c .before .before .unpack-byte2 .kept .1 .1 .0 ∙ stored-length (c .before .before .before .before .before .before .before .loop .inv .pixels)
 
 returns : tie.Need-returns Inv-loop μ-loop
-returns c = row-rest (c .before .before .before .before .before .before .before .loop .inv) (c .before .before .before .before .before .before .loop-test .left) (c .before .before .unpack-byte2 .ensures)
+returns c =
+    let l = c .before .before .before .before .before .before in
+    row-rest (l .before .loop .inv) (l .loop-test .left) (c .before .before .unpack-byte2 .ensures)
 
 same-length-2 : tie.Need-same-length-2 Inv-loop μ-loop
 same-length-2 c = stored-length (c .before .before .loop .inv .pixels)

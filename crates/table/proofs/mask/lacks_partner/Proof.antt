@@ -1,6 +1,6 @@
 -- `mask::lacks_partner` meets its contract.
 -- Assumes nothing.
-use mathlib.Core.Bool.{not, Bool·not-not}
+use mathlib.Core.Bool.{Bool·not-not}
 use borrow.Author.Needs.{needs}
 use borrow.Author.Tests.{ne-eqb}
 use Rattle.seq.proofs.Bits.{bit-one, bit-none}

@@ -1,6 +1,5 @@
 -- `number::groups_at` meets its contract: the groups are summed from the last on.
 -- Assumes nothing.
-use Prim.Native.Nat.{_-_}
 use native.Mathlib.Omega.{arith}
 use borrow.Author.Needs.{needs}
 use lib.ListN.{drop, length-drop}

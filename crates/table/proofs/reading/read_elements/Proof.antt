@@ -1,10 +1,9 @@
 -- `reading::read_elements` meets its contract.
 -- Assumes nothing.
-use mathlib.Core.Path.{_≡_, sym, _∙_}
-use Prim.Native.Nat.{_-_, _≤_}
+use mathlib.Core.Path.{sym, _∙_}
+use Prim.Native.Nat.{_-_}
 use native.Mathlib.Omega.{arith}
 use borrow.Author.Needs.{needs}
-use Rattle.table.specs.File.{number}
 use Rattle.table.proofs.Steps.{Stepped, stepped-none, stepped-more, stepped-refused, stepped-bad, stepped-all}
 use Rattle.table.proofs.reading.read_elements.Statement.{statement}
 use Rattle.table.proofs.reading.read_elements.Tie as tie

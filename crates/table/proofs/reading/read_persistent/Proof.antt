@@ -66,7 +66,11 @@ related-requires : tie.Need-related-requires
 related-requires c κs =
     let start = c .before .before .before .before .before .before .before .before in
     let read = sym (c .before .before .before .before .before .before .read-at .ensures) ∙ c .before .before .before .before .persistent .given .1 in
-    (ap lowestBad (last-table (start .pre) read) ∙ start .pre .placed, start .pre .within, mask-lt _ (not-false _ (ap not (sym (c .before .before .valid .ensures)) ∙ c .before .if1 .left)))
+    record {
+      few = start .pre .within;
+      placed = ap lowestBad (last-table (start .pre) read) ∙ start .pre .placed;
+      masked = mask-lt _ (not-false _ (ap not (sym (c .before .before .valid .ensures)) ∙ c .before .if1 .left));
+    }
 
 returns-3 : tie.Need-returns-3
 returns-3 c =

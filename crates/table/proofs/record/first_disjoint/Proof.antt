@@ -20,7 +20,7 @@ loop-holds : tie.Need-loop-holds Inv-loop μ-loop
 loop-holds c = passed-none
 
 disjoint-from-requires : tie.Need-disjoint-from-requires Inv-loop μ-loop
-disjoint-from-requires c κs = (omega arith, place-lt _ (c .before .before .before .pre .0) _ (omega arith))
+disjoint-from-requires c κs = (omega arith, place-lt _ (c .before .before .before .pre .placed) _ (omega arith))
 
 enum-told : tie.Need-enum-told Inv-loop μ-loop
 enum-told c = search needs

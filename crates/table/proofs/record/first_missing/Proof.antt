@@ -26,7 +26,7 @@ element-copy-out-lowest-unpartnered : tie.Need-element-copy-out-lowest-unpartner
 element-copy-out-lowest-unpartnered c = omega arith
 
 lowest-unpartnered-requires : tie.Need-lowest-unpartnered-requires Inv-loop μ-loop
-lowest-unpartnered-requires c κs = let w = c .before .before .before .pre in (w .2, place-lt _ (w .0) _ (omega arith))
+lowest-unpartnered-requires c κs = let w = c .before .before .before .pre in (w .masked, place-lt _ (w .placed) _ (omega arith))
 
 enum-told : tie.Need-enum-told Inv-loop μ-loop
 enum-told c = search needs

@@ -1,12 +1,11 @@
 -- `record::relations` meets its contract.
 -- Assumes nothing.
-use mathlib.Core.Path.{sym, ap, _∙_}
+use mathlib.Core.Path.{sym, _∙_}
 use native.Mathlib.Omega.{arith}
 use borrow.Author.Needs.{needs}
 use Rattle.seq.specs.Lists.{isSome}
 use Rattle.table.specs.Record.{disjointFrom, missing}
 use Rattle.table.proofs.Verdicts.{search-lt, search-refuses, search-accepts}
-use Rattle.verdict.specs.Rules.{orElse}
 use Rattle.table.proofs.record.relations.Statement.{statement}
 use Rattle.table.proofs.record.relations.Tie as tie
 

@@ -1,14 +1,12 @@
--- `image::pixels::is_above` meets its contract. The loop's invariant: `above` says whether a byte passed is above 1. Assumes nothing.
+-- `image::pixels::row_exceeds` meets its contract. The loop's invariant: `above` says whether a byte passed is above 1. Assumes nothing.
 use mathlib.Core.Logic.{⊎-elim}
 use Prim.Native.Nat.{_+_, _-_, _≤_}
 use native.Mathlib.Omega.{arith}
 use borrow.Author.Needs.{needs}
 use borrow.Author.Tests.{lt-ltb, le-ltb}
-use Rattle.image.specs.Layout.{tooLarge}
-use Rattle.image.proofs.pixels.is_above.Statement.{statement}
-use Rattle.image.proofs.pixels.is_above.Tie as tie
-use Rattle.image.proofs.pixels.is_above.Reads as reads
-use Rattle.image.proofs.pixels.is_above.Lts as lts
+use Rattle.image.specs.Rows.{tooLarge}
+use Rattle.image.proofs.pixels.row_exceeds.Statement.{statement}
+use Rattle.image.proofs.pixels.row_exceeds.Tie as tie
 use Rattle.seq.proofs.Notes.{Noted, note-none, note-yes, note-no, note-all}
 
 abbrev Inv-loop : tie.InvT-loop
@@ -33,13 +31,15 @@ loop-less : tie.Need-loop-less Inv-loop μ-loop
 loop-less c = search needs
 
 loop-again : tie.Need-loop-again Inv-loop μ-loop
-loop-again c = let s = c .before .before .before .loop .inv .1 in (search needs, ⊎-elim (λ w. note-yes s (w .1) (lt-ltb _ _ (w .0 .taken))) (λ w. note-no s (w .1) (le-ltb _ _ (w .0 .left))) (c .if1 .came))
+loop-again c =
+    let s = c .before .before .before .loop .inv .1 in
+    (search needs, ⊎-elim (λ w. note-yes s (w .1) (lt-ltb _ _ (w .0 .taken))) (λ w. note-no s (w .1) (le-ltb _ _ (w .0 .left))) (c .if1 .came))
 
 returns : tie.Need-returns Inv-loop μ-loop
 returns c = note-all (c .before .before .args .width) (c .before .loop .inv .1) (omega arith)
 
-pub is-above-spec : {M : Type 1} → statement M
-is-above-spec =
+pub row-exceeds-spec : {M : Type 1} → statement M
+row-exceeds-spec =
     tie.close
     (tie.spec
     Inv-loop

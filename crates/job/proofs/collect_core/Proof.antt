@@ -1,0 +1,85 @@
+-- `job::collect_core`: 14 and 16, then 17, then the writer.
+-- Assumes nothing.
+use mathlib.Core.Path.{sym, _∙_}
+use borrow.Author.Needs.{needs}
+use Rattle.job.proofs.Collects.{unready, unsettled, written, unwritten}
+use Rattle.job.proofs.Ready.{accepted-ready}
+use Rattle.job.proofs.collect_core.Statement.{statement}
+use Rattle.job.proofs.collect_core.Tie as tie
+
+ready-requires : tie.Need-ready-requires
+ready-requires c κs = search needs
+
+enum-known-refusal : tie.Need-enum-known-refusal
+enum-known-refusal c = search needs
+
+returns : tie.Need-returns
+returns c = unready _ _ (sym (c .before .before .before .ready .ensures) ∙ c .before .refusal .given .1)
+
+enum-told : tie.Need-enum-told
+enum-told c = search needs
+
+refusal-requires : tie.Need-refusal-requires
+refusal-requires c κs = search needs
+
+returns-2 : tie.Need-returns-2
+returns-2 c =
+    let test = c .before in
+    let told = test .before .before in
+    rw (c .refusal2 .ensures) (unsettled _ _ (sym (told .before .before .ready .ensures) ∙ told .enum-told .given .1) (test .if1 .taken))
+
+write-image-requires : tie.Need-write-image-requires
+write-image-requires c κs =
+    let told = c .before .before .before in
+    let ready = accepted-ready _ (sym (told .before .before .ready .ensures) ∙ told .enum-told .given .1) in
+    (ready .first, ready .second)
+
+enum-told-2 : tie.Need-enum-told-2
+enum-told-2 c = search needs
+
+empty-requires : tie.Need-empty-requires
+empty-requires c κs = search needs
+
+enum-told-3 : tie.Need-enum-told-3
+enum-told-3 c = search needs
+
+same-length : tie.Need-same-length
+same-length c = search needs
+
+returns-3 : tie.Need-returns-3
+returns-3 c =
+    let write = c .before .before .before .before .before in
+    let test = write .before .before in
+    let told = test .before .before in
+    written _ _ (sym (told .before .before .ready .ensures) ∙ told .enum-told .given .1) (test .if1 .left)
+    (write .write-image .ensures .0) (write .write-image .ensures .1) (c .before .enum-told2 .given .1) (c .empty .ensures)
+
+same-length-2 : tie.Need-same-length-2
+same-length-2 c = search needs
+
+returns-4 : tie.Need-returns-4
+returns-4 c =
+    let write = c .before .before .before .before in
+    let test = write .before .before in
+    let told = test .before .before in
+    unwritten _ _ (sym (told .before .before .ready .ensures) ∙ told .enum-told .given .1) (test .if1 .left)
+    (write .write-image .ensures .0) (write .write-image .ensures .1) (c .enum-told3 .given .1)
+
+pub collect-core-spec : {M : Type 1} → statement M
+collect-core-spec =
+    tie.close
+    (tie.spec
+    ready-requires
+    enum-known-refusal
+    returns
+    enum-told
+    refusal-requires
+    returns-2
+    write-image-requires
+    enum-told-2
+    empty-requires
+    enum-told-3
+    same-length
+    returns-3
+    same-length-2
+    returns-4)

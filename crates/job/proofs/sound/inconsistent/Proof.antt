@@ -1,0 +1,119 @@
+-- `job::sound::inconsistent`: each answer rewrites the definition by the tests that led there.
+-- Assumes nothing.
+use mathlib.Core.Path.{sym, _∙_}
+use native.Mathlib.Omega.{arith}
+use borrow.Author.Needs.{needs}
+use borrow.Author.Tests.{lt-ltb, le-ltb}
+use Rattle.history.specs.State.{inconsistent}
+use Rattle.job.proofs.Inconsistent.{stained, many-passes, counts-left}
+use Rattle.job.proofs.Settled.{small}
+use Rattle.job.proofs.sound.inconsistent.Statement.{statement}
+use Rattle.job.proofs.sound.inconsistent.Tie as tie
+
+bad-size-requires : tie.Need-bad-size-requires
+bad-size-requires c κs = search needs
+
+returns : tie.Need-returns
+unfolding inconsistent
+returns c = simp (sym (c .before .bad-size .ensures) ∙ c .if1 .taken)
+
+check-requires : tie.Need-check-requires
+check-requires c κs = search needs
+
+enum-told : tie.Need-enum-told
+enum-told c = search needs
+
+returns-2 : tie.Need-returns-2
+unfolding inconsistent
+returns-2 c =
+    let check = c .before .before in
+    let size = check .before .before in
+    simp (sym (size .before .bad-size .ensures) ∙ size .if1 .left, sym (check .check .ensures) ∙ c .enum-told .given .1)
+
+enum-told-2 : tie.Need-enum-told-2
+enum-told-2 c = search needs
+
+mul-pixels : tie.Need-mul-pixels
+mul-pixels c =
+    let size = c .before .before .before .before .before in
+    omega (arith, small _ _ (sym (size .before .bad-size .ensures) ∙ size .if1 .left))
+
+returns-3 : tie.Need-returns-3
+unfolding inconsistent
+returns-3 c =
+    let told = c .before .before in
+    let check = told .before .before in
+    let size = check .before .before in
+    simp (
+      sym (size .before .bad-size .ensures) ∙ size .if1 .left,
+      sym (check .check .ensures) ∙ told .enum-told2 .given .1,
+      lt-ltb _ _ (c .if2 .taken),
+    )
+
+returns-4 : tie.Need-returns-4
+unfolding inconsistent
+returns-4 c =
+    let told = c .before .before .before in
+    let check = told .before .before in
+    let size = check .before .before in
+    simp (
+      sym (size .before .bad-size .ensures) ∙ size .if1 .left,
+      sym (check .check .ensures) ∙ told .enum-told2 .given .1,
+      le-ltb _ _ (c .before .if2 .left),
+      lt-ltb _ _ (c .if3 .taken),
+    )
+
+stained-requires : tie.Need-stained-requires
+stained-requires c κs = search needs
+
+returns-5 : tie.Need-returns-5
+returns-5 c =
+    let areas = c .before .before in
+    let told = areas .before .before .before in
+    let check = told .before .before in
+    let size = check .before .before in
+    stained _ (sym (size .before .bad-size .ensures) ∙ size .if1 .left) (sym (check .check .ensures) ∙ told .enum-told2 .given .1)
+    (areas .before .if2 .left) (areas .if3 .left) (sym (c .before .stained .ensures) ∙ c .if4 .taken)
+
+returns-6 : tie.Need-returns-6
+returns-6 c =
+    let pixel = c .before .before in
+    let areas = pixel .before .before in
+    let told = areas .before .before .before in
+    let check = told .before .before in
+    let size = check .before .before in
+    many-passes _ (sym (size .before .bad-size .ensures) ∙ size .if1 .left) (sym (check .check .ensures) ∙ told .enum-told2 .given .1)
+    (areas .before .if2 .left) (areas .if3 .left) (sym (pixel .before .stained .ensures) ∙ pixel .if4 .left) (c .if5 .taken)
+
+sum-above-requires : tie.Need-sum-above-requires
+sum-above-requires c κs = search needs
+
+returns-7 : tie.Need-returns-7
+returns-7 c =
+    let pixel = c .before .before .before in
+    let areas = pixel .before .before in
+    let told = areas .before .before .before in
+    let check = told .before .before in
+    let size = check .before .before in
+    c .sum-above .ensures
+    ∙ counts-left _ (sym (size .before .bad-size .ensures) ∙ size .if1 .left) (sym (check .check .ensures) ∙ told .enum-told2 .given .1)
+    (areas .before .if2 .left) (areas .if3 .left) (sym (pixel .before .stained .ensures) ∙ pixel .if4 .left) (c .before .if5 .left)
+
+pub inconsistent-spec : {M : Type 1} → statement M
+inconsistent-spec =
+    tie.close
+    (tie.spec
+    bad-size-requires
+    returns
+    check-requires
+    enum-told
+    returns-2
+    enum-told-2
+    mul-pixels
+    returns-3
+    returns-4
+    stained-requires
+    returns-5
+    returns-6
+    sum-above-requires
+    returns-7)

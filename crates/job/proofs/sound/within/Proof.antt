@@ -1,0 +1,16 @@
+-- `job::sound::within` meets its contract. Assumes nothing.
+use borrow.Author.Tests.{le-leb, lt-leb}
+use Rattle.image.specs.Size.{within}
+use Rattle.job.proofs.sound.within.Statement.{statement}
+use Rattle.job.proofs.sound.within.Tie as tie
+
+returns : tie.Need-returns
+unfolding within
+returns c = simp (le-leb _ _ (c .if1 .taken))
+
+returns-2 : tie.Need-returns-2
+unfolding within
+returns-2 c = simp (lt-leb _ _ (c .if1 .left))
+
+pub within-spec : {M : Type 1} → statement M
+within-spec = tie.close (tie.spec returns returns-2)

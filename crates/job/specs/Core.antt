@@ -1,0 +1,26 @@
+-- The calls as functions that take the record by value and hand it back.
+--     at j a b         a job record with its two areas
+--     loaded v s, stepped o, emptied w s     an answer and the record afterwards
+-- Assumes nothing.
+use mathlib.Core.List.{List}
+use Prim.Native.Nat.{ℕ}
+use Rattle.history.specs.declared.Job.{Job}
+use Rattle.history.specs.Pass.{Outcome}
+use Rattle.history.specs.State.{State}
+use Rattle.job.specs.declared.Emptied.{Emptied}
+use Rattle.job.specs.declared.Loaded.{Loaded}
+use Rattle.job.specs.declared.Stepped.{Stepped}
+use Rattle.verdict.specs.declared.Verdict.{Verdict}
+use Rattle.verdict.specs.declared.Written.{Written}
+
+abbrev pub at : Job → List ℕ → List ℕ → State
+at j a b = record { job = j; first = a; second = b }
+
+abbrev pub loaded : Verdict → State → Loaded
+loaded v s = record { answer = v; job = s .job }
+
+abbrev pub stepped : Outcome → Stepped
+stepped o = record { answer = o .answer; job = o .state .job }
+
+abbrev pub emptied : Written → State → Emptied
+emptied w s = record { answer = w; job = s .job }

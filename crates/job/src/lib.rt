@@ -1,0 +1,272 @@
+// The calls on a job (01, The job). Each call checks the record with its areas first (14), and a refused call alters nothing; a run that
+// 14's pass clause stops keeps the passes before it. Load, pass, run and collect come in two forms: `.._core` takes the record by value and
+// hands it back, and the form that 01 names is lent the record and writes it back.
+use history::Figured;
+use history::Job;
+use history::Passed;
+use image::ImageRead;
+use table::Table;
+use verdict::Verdict;
+use verdict::Written;
+ghost use mathlib.Core.Path.{_≡_};
+ghost use Prim.Native.Nat.{_≤_, min};
+ghost use lib.ListN.{length};
+ghost use Rattle.history.specs.Collect.{collectWritten, collectOutput, collectState};
+ghost use Rattle.history.specs.Load.{loadVerdict, loadState};
+ghost use Rattle.history.specs.Pass.{passOf};
+ghost use Rattle.history.specs.Run.{runOf};
+ghost use Rattle.history.specs.State.{pixels, image, emptyJob, readyVerdict};
+ghost use Rattle.history.specs.View.{viewOf, figuresOf};
+ghost use Rattle.image.specs.File.{imageWritten, imageOutput};
+ghost use Rattle.job.specs.Core.{at, loaded, stepped, emptied};
+
+mod area;
+mod figure;
+mod sound;
+mod step;
+
+// What a call that takes the record by value answers, and the record afterwards.
+pub struct Loaded {
+    pub answer: Verdict,
+    pub job: Job,
+}
+
+pub struct Stepped {
+    pub answer: Passed,
+    pub job: Job,
+}
+
+pub struct Emptied {
+    pub answer: Written,
+    pub job: Job,
+}
+
+// Load: 14, 15, table, sheet, 13. The image is read into the part of the first area that both areas have, so that 13 tests both.
+pub fn load_core(job: Job, table: Table, file: &[u8], first: &mut [u8], second: &[u8]) -> Loaded
+    ensures { λ r. ⌜ (r ≡ loaded (loadVerdict table (now (file .entry)) (at job (now (first .entry)) (now (second .entry))))
+        (loadState table (now (file .entry)) (at job (now (first .entry)) (now (second .entry)))))
+        × (now (first .exit) ≡ loadState table (now (file .entry)) (at job (now (first .entry)) (now (second .entry))) .first) ⌝ }
+{
+    if sound::unsound(job, first, second) {
+        return Loaded {
+            answer: sound::refused(verdict::UNSOUND),
+            job,
+        };
+    }
+    if job.stage != sound::EMPTY {
+        return Loaded {
+            answer: sound::refused(verdict::NOT_COLLECTED),
+            job,
+        };
+    }
+    if let Verdict::Refused(refusal) = table::check(table) {
+        return Loaded {
+            answer: Verdict::Refused(refusal),
+            job,
+        };
+    }
+    let both = lesser(first.len(), second.len());
+    match image::read(file, &mut first[..both]) {
+        ImageRead::Size { width, height } => {
+            let job = Job {
+                stage: sound::LOADED,
+                width,
+                height,
+                passes: 0,
+                added: 0,
+                removed: 0,
+                table,
+            };
+            Loaded {
+                answer: Verdict::Accepted,
+                job,
+            }
+        }
+        ImageRead::Refused(refusal) => Loaded {
+            answer: Verdict::Refused(refusal),
+            job,
+        },
+    }
+}
+
+pub fn load(job: &mut Job, table: Table, file: &[u8], first: &mut [u8], second: &[u8]) -> Verdict
+    ensures { λ r. ⌜ (r ≡ loadVerdict table (now (file .entry)) (at (now (job .entry)) (now (first .entry)) (now (second .entry))))
+        × (now (job .exit) ≡ loadState table (now (file .entry)) (at (now (job .entry)) (now (first .entry)) (now (second .entry))) .job)
+        × (now (first .exit) ≡ loadState table (now (file .entry)) (at (now (job .entry)) (now (first .entry)) (now (second .entry))) .first) ⌝ }
+{
+    let s = load_core(*job, table, file, first, second);
+    *job = s.job;
+    s.answer
+}
+
+fn lesser(a: usize, b: usize) -> usize
+    ensures { λ r. ⌜ r ≡ min a b ⌝ }
+{
+    if a < b { a } else { b }
+}
+
+// Pass: 14, 16; then the new image in the other area, unless 14's pass clause holds. At stage 2 nothing is altered.
+pub fn pass_core(job: Job, first: &mut [u8], second: &mut [u8]) -> Stepped
+    ensures { λ r. ⌜ (r ≡ stepped (passOf (at job (now (first .entry)) (now (second .entry)))))
+        × (now (first .exit) ≡ passOf (at job (now (first .entry)) (now (second .entry))) .state .first)
+        × (now (second .exit) ≡ passOf (at job (now (first .entry)) (now (second .entry))) .state .second) ⌝ }
+{
+    if let Verdict::Refused(refusal) = sound::ready(job, first, second) {
+        return Stepped {
+            answer: Passed::Refused(refusal),
+            job,
+        };
+    }
+    if job.stage == sound::STABLE {
+        return Stepped {
+            answer: Passed::Stable,
+            job,
+        };
+    }
+    step::advance(job, first, second)
+}
+
+pub fn pass(job: &mut Job, first: &mut [u8], second: &mut [u8]) -> Passed
+    ensures { λ r. ⌜ (r ≡ passOf (at (now (job .entry)) (now (first .entry)) (now (second .entry))) .answer)
+        × (now (job .exit) ≡ passOf (at (now (job .entry)) (now (first .entry)) (now (second .entry))) .state .job)
+        × (now (first .exit) ≡ passOf (at (now (job .entry)) (now (first .entry)) (now (second .entry))) .state .first)
+        × (now (second .exit) ≡ passOf (at (now (job .entry)) (now (first .entry)) (now (second .entry))) .state .second) ⌝ }
+{
+    let s = pass_core(*job, first, second);
+    *job = s.job;
+    s.answer
+}
+
+// Run: 14, 16; then passes until one answers "at rest" or is refused. The record is checked once.
+pub fn run_core(job: Job, first: &mut [u8], second: &mut [u8]) -> Stepped
+    ensures { λ r. ⌜ (r ≡ stepped (runOf (at job (now (first .entry)) (now (second .entry)))))
+        × (now (first .exit) ≡ runOf (at job (now (first .entry)) (now (second .entry))) .state .first)
+        × (now (second .exit) ≡ runOf (at job (now (first .entry)) (now (second .entry))) .state .second) ⌝ }
+{
+    if let Verdict::Refused(refusal) = sound::ready(job, first, second) {
+        return Stepped {
+            answer: Passed::Refused(refusal),
+            job,
+        };
+    }
+    if job.stage == sound::STABLE {
+        return Stepped {
+            answer: Passed::Stable,
+            job,
+        };
+    }
+    step::repeat(job, first, second)
+}
+
+pub fn run(job: &mut Job, first: &mut [u8], second: &mut [u8]) -> Passed
+    ensures { λ r. ⌜ (r ≡ runOf (at (now (job .entry)) (now (first .entry)) (now (second .entry))) .answer)
+        × (now (job .exit) ≡ runOf (at (now (job .entry)) (now (first .entry)) (now (second .entry))) .state .job)
+        × (now (first .exit) ≡ runOf (at (now (job .entry)) (now (first .entry)) (now (second .entry))) .state .first)
+        × (now (second .exit) ≡ runOf (at (now (job .entry)) (now (first .entry)) (now (second .entry))) .state .second) ⌝ }
+{
+    let s = run_core(*job, first, second);
+    *job = s.job;
+    s.answer
+}
+
+// View: the present image; a refused view shows an empty part.
+pub fn view<'a>(job: Job, first: &'a [u8], second: &'a [u8]) -> &'a [u8]
+    ensures { λ r. ⌜ now r ≡ viewOf (at job (now (first .entry)) (now (second .entry))) ⌝ }
+{
+    if let Verdict::Refused(_) = sound::ready(job, first, second) {
+        return &first[..0];
+    }
+    area::image(job, first, second)
+}
+
+// Number and place of a refused view: 14, 16.
+pub fn view_verdict(job: Job, first: &[u8], second: &[u8]) -> Verdict
+    ensures { λ r. ⌜ r ≡ readyVerdict (at job (now (first .entry)) (now (second .entry))) ⌝ }
+{
+    sound::ready(job, first, second)
+}
+
+// Figures: 14, 16; balance signed, cover in thousandths.
+pub fn figures(job: Job, first: &[u8], second: &[u8]) -> Figured
+    ensures { λ r. ⌜ r ≡ figuresOf (at job (now (first .entry)) (now (second .entry))) ⌝ }
+{
+    if let Verdict::Refused(refusal) = sound::ready(job, first, second) {
+        return Figured::Refused(refusal);
+    }
+    let black = figure::black(job, first, second);
+    let balance = figure::balance(job.added, job.removed);
+    let cover = figure::cover(black, job.width * job.height);
+    Figured::Figures { balance, cover }
+}
+
+// Collect: 14, 16, 17, 13; then the file in the output, and an empty record.
+pub fn collect_core(job: Job, first: &[u8], second: &[u8], out: &mut [u8]) -> Emptied
+    ensures { λ r. ⌜ (r ≡ emptied (collectWritten (length (now (out .entry))) (at job (now (first .entry)) (now (second .entry))))
+        (collectState (length (now (out .entry))) (at job (now (first .entry)) (now (second .entry)))))
+        × (now (out .exit) ≡ collectOutput (now (out .entry)) (at job (now (first .entry)) (now (second .entry)))) ⌝ }
+{
+    if let Verdict::Refused(refusal) = sound::ready(job, first, second) {
+        return Emptied {
+            answer: Written::Refused(refusal),
+            job,
+        };
+    }
+    if job.stage == sound::LOADED {
+        return Emptied {
+            answer: Written::Refused(sound::refusal(verdict::NOT_STABLE)),
+            job,
+        };
+    }
+    let answer = write_image(job, first, second, out);
+    match answer {
+        Written::Length(_) => Emptied {
+            answer,
+            job: empty(),
+        },
+        Written::Refused(_) => Emptied { answer, job },
+    }
+}
+
+pub fn collect(job: &mut Job, first: &[u8], second: &[u8], out: &mut [u8]) -> Written
+    ensures { λ r. ⌜ (r ≡ collectWritten (length (now (out .entry))) (at (now (job .entry)) (now (first .entry)) (now (second .entry))))
+        × (now (job .exit) ≡ collectState (length (now (out .entry))) (at (now (job .entry)) (now (first .entry)) (now (second .entry))) .job)
+        × (now (out .exit) ≡ collectOutput (now (out .entry)) (at (now (job .entry)) (now (first .entry)) (now (second .entry)))) ⌝ }
+{
+    let s = collect_core(*job, first, second, out);
+    *job = s.job;
+    s.answer
+}
+
+// The file of the present image.
+fn write_image(job: Job, first: &[u8], second: &[u8], out: &mut [u8]) -> Written
+    requires { ⌜ (pixels job ≤ length (now first)) × (pixels job ≤ length (now second)) ⌝ }
+    ensures { λ r. ⌜ (r ≡ imageWritten (job .width) (job .height) (image (at job (now (first .entry)) (now (second .entry)))) (length (now (out .entry))))
+        × (now (out .exit) ≡ imageOutput (job .width) (job .height) (image (at job (now (first .entry)) (now (second .entry)))) (now (out .entry))) ⌝ }
+{
+    let count = job.width * job.height;
+    if job.passes % 2 == 0 {
+        image::write(job.width, job.height, &first[..count], out)
+    } else {
+        image::write(job.width, job.height, &second[..count], out)
+    }
+}
+
+// An empty record: every field zero. What a job starts from.
+pub fn empty() -> Job
+    ensures { λ r. ⌜ r ≡ emptyJob ⌝ }
+{
+    let table = Table {
+        count: 0,
+        elements: [0u32; sound::ELEMENTS],
+        persistent: 0,
+    };
+    Job {
+        stage: sound::EMPTY,
+        width: 0,
+        height: 0,
+        passes: 0,
+        added: 0,
+        removed: 0,
+        table,
+    }
+}

@@ -1,0 +1,171 @@
+// When a job record is unsound with its areas (01: 14), and ready for a call (14, 16).
+use history::Job;
+use verdict::Refusal;
+use verdict::Verdict;
+ghost use mathlib.Core.Bool.{not};
+ghost use mathlib.Core.Path.{_≡_};
+ghost use Prim.Native.Nat.{_+_, _≤_};
+ghost use lib.Dec.{eqb, ltb};
+ghost use lib.ListN.{length};
+ghost use Rattle.history.specs.State.{pixels, image, readyVerdict};
+ghost use Rattle.image.specs.Size.{within, badSize};
+ghost use Rattle.job.specs.Core.{at};
+ghost use Rattle.seq.specs.Lists.{any, all};
+ghost use Rattle.verdict.specs.Rules;
+
+pub(crate) const EMPTY: u8 = 0;
+
+pub(crate) const LOADED: u8 = 1;
+
+pub(crate) const STABLE: u8 = 2;
+
+pub(crate) const MAX_SIDE: usize = 256;
+
+pub(crate) const ELEMENTS: usize = 64;
+
+// What pass, run, view and figures begin with: 14, 16.
+pub(crate) fn ready(job: Job, first: &[u8], second: &[u8]) -> Verdict
+    ensures { λ r. ⌜ r ≡ readyVerdict (at job (now (first .entry)) (now (second .entry))) ⌝ }
+{
+    if unsound(job, first, second) {
+        return refused(verdict::UNSOUND);
+    }
+    if job.stage == EMPTY {
+        return refused(verdict::NOTHING_LOADED);
+    }
+    Verdict::Accepted
+}
+
+pub(crate) fn refused(number: u32) -> Verdict
+    ensures { λ r. ⌜ r ≡ Verdict.Refused (Rules.refusal number 0) ⌝ }
+{
+    Verdict::Refused(Refusal { number, place: 0 })
+}
+
+// Refused because of the state: place 0 always.
+pub(crate) fn refusal(number: u32) -> Refusal
+    ensures { λ r. ⌜ r ≡ Rules.refusal number 0 ⌝ }
+{
+    Refusal { number, place: 0 }
+}
+
+// 14, without its pass clause.
+pub(crate) fn unsound(job: Job, first: &[u8], second: &[u8]) -> bool
+    ensures { λ r. ⌜ r ≡ Rattle.history.specs.State.unsound (at job (now (first .entry)) (now (second .entry))) ⌝ }
+{
+    let stage = job.stage;
+    if STABLE < stage {
+        return true;
+    }
+    if stage == EMPTY {
+        return nonzero(job);
+    }
+    inconsistent(job, first, second)
+}
+
+// What 14 asks at stage 1 and 2.
+fn inconsistent(job: Job, first: &[u8], second: &[u8]) -> bool
+    ensures { λ r. ⌜ r ≡ Rattle.history.specs.State.inconsistent (at job (now (first .entry)) (now (second .entry))) ⌝ }
+{
+    if bad_size(job.width, job.height) {
+        return true;
+    }
+    let table = job.table;
+    if let Verdict::Refused(_) = table::check(table) {
+        return true;
+    }
+    let pixels = job.width * job.height;
+    if first.len() < pixels {
+        return true;
+    }
+    if second.len() < pixels {
+        return true;
+    }
+    if stained(job, first, second) {
+        return true;
+    }
+    if pixels < job.passes {
+        return true;
+    }
+    sum_above(pixels, job.added, job.removed)
+}
+
+// A present pixel is above 1.
+fn stained(job: Job, first: &[u8], second: &[u8]) -> bool
+    requires { ⌜ (pixels job ≤ length (now first)) × (pixels job ≤ length (now second)) ⌝ }
+    ensures { λ r. ⌜ r ≡ any (ltb 1) (image (at job (now (first .entry)) (now (second .entry)))) ⌝ }
+{
+    let count = job.width * job.height;
+    if job.passes % 2 == 0 {
+        above_one(&first[..count])
+    } else {
+        above_one(&second[..count])
+    }
+}
+
+fn bad_size(width: usize, height: usize) -> bool
+    ensures { λ r. ⌜ r ≡ badSize width height ⌝ }
+{
+    if !within(width) {
+        return true;
+    }
+    !within(height)
+}
+
+fn within(side: usize) -> bool
+    ensures { λ r. ⌜ r ≡ Rattle.image.specs.Size.within 256 side ⌝ }
+{
+    1 <= side && side <= MAX_SIDE
+}
+
+// Stage 0 with a nonzero field. The join of the numbers is 0 exactly when each of them is.
+fn nonzero(job: Job) -> bool
+    ensures { λ r. ⌜ r ≡ Rattle.history.specs.State.nonzero job ⌝ }
+{
+    let table = job.table;
+    let sizes = job.width | job.height | job.passes;
+    let counts = job.added | job.removed | table.count;
+    if sizes | counts != 0 {
+        return true;
+    }
+    if table.persistent != 0 {
+        return true;
+    }
+    let elements = table.elements;
+    any_nonzero(elements)
+}
+
+fn any_nonzero(elements: [u32; ELEMENTS]) -> bool
+    ensures { λ r. ⌜ r ≡ not (all (eqb 0) elements) ⌝ }
+{
+    let mut seen: u32 = 0;
+    let mut i = 0;
+    while i < ELEMENTS {
+        seen = seen | elements[i];
+        i += 1;
+    }
+    seen != 0
+}
+
+// A byte is above 1. Without a way out of the loop, so that many bytes are joined at once.
+fn above_one(bytes: &[u8]) -> bool
+    ensures { λ r. ⌜ r ≡ any (ltb 1) (now (bytes .entry)) ⌝ }
+{
+    let mut seen: u8 = 0;
+    let mut i = 0;
+    while i < bytes.len() {
+        seen = seen | bytes[i];
+        i += 1;
+    }
+    1 < seen
+}
+
+// added + removed is above the limit, without a sum that could wrap.
+pub(crate) fn sum_above(limit: usize, added: usize, removed: usize) -> bool
+    ensures { λ r. ⌜ r ≡ ltb limit (added + removed) ⌝ }
+{
+    if limit < added {
+        return true;
+    }
+    limit - added < removed
+}
