@@ -1,6 +1,6 @@
 -- The operator theory over any set of sites (000, sections 4 to 6; 01, demand 3), for every lawful system.
 -- Assumes nothing.
-use mathlib.Core.Bool.{Bool, true, not}
+use mathlib.Core.Bool.{true, not}
 use mathlib.Core.List.{List}
 use mathlib.Core.Path.{_≡_}
 use Prim.Native.Nat.{ℕ, suc, _≤_}

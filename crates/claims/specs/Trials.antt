@@ -2,7 +2,6 @@
 -- Assumes nothing.
 use mathlib.Core.Bool.{true}
 use mathlib.Core.Path.{_≡_}
-use Prim.Native.Nat.{ℕ}
 use lib.ListN.{length}
 use Rattle.seq.specs.Lists.{all}
 use Rattle.trials.specs.Case.{meets}

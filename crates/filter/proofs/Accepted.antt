@@ -16,7 +16,9 @@ use borrow.Author.Tests.{leb-true, ltb-true, ltb-false, lt-ltb, not-false}
 use Rattle.seq.specs.Lists.{isSome}
 use Rattle.seq.specs.Tab.{first}
 use Rattle.seq.proofs.Lists.{either, and-right}
+use Rattle.seq.proofs.Members.{not-some, any-false, take-place}
 use Rattle.seq.proofs.Tab.{first-nothing}
+use Rattle.seq.proofs.Tests.{or-none-left}
 use Rattle.table.specs.declared.Table.{Table}
 use Rattle.table.specs.Mask.{positions, validMask, meets, sumInside, sum, persistentFor}
 use Rattle.table.specs.Record.{maxElements, element, masks, persistents, recordVerdict, badCount, badElement, badPlace, disjointFrom, missing}
@@ -25,7 +27,6 @@ use Rattle.verdict.specs.declared.Verdict.{Verdict}
 use Rattle.verdict.specs.declared.Verdict.the-variants.{Accepted}
 use Rattle.verdict.specs.Rules.{refuseAt}
 use Rattle.verdict.proofs.Rules.{judge-accepted, refuseIf-accepted, refuseAt-accepted}
-use Rattle.filter.proofs.Lists.{or-none, not-some, any-false, take-place}
 use Rattle.filter.proofs.Masks.{valid-position, meets-shared, persistent-partner}
 
 abbrev rules : Table → List Verdict
@@ -46,18 +47,18 @@ module _ (t : Table) (ok : recordVerdict t ≡ Accepted) where
   nowhere p n m r = first-nothing p n (refuseAt-accepted (first p n) m suc (rule _ r))
 
   -- rule 3
-  count-most : t .count ≤ maxElements
+  pub count-most : t .count ≤ maxElements
   unfolding badCount
   count-most =
       let h = not-false _ (refuseIf-accepted (badCount t) 3 0 (rule (countRule t) (List·Memᴰ·head refl))) in
       leb-true _ _ (and-right (leb 1 (t .count)) _ h)
 
   -- rule 4
-  element-valid : (k : ℕ) → k < t .count → validMask (element t k) ≡ true
+  pub element-valid : (k : ℕ) → k < t .count → validMask (element t k) ≡ true
   unfolding badPlace badElement
   element-valid k l =
       let h = nowhere (badPlace t) maxElements 4 (List·Memᴰ·tail (List·Memᴰ·head refl)) k (omega (arith, count-most)) in
-      not-false _ (or-none (not (validMask (element t k))) _ (rw (lt-ltb k (t .count) l) at h))
+      not-false _ (or-none-left (not (validMask (element t k))) _ (rw (lt-ltb k (t .count) l) at h))
 
   -- rule 5
   element-meets : (j k : ℕ) → j < k → k < t .count → meets (element t k) (element t j) ≡ true

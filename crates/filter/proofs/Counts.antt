@@ -29,12 +29,12 @@ use Rattle.morph.proofs.Bound.{bound}
 use Rattle.seq.specs.Lists.{any, one, count, same}
 use Rattle.seq.specs.Tab.{upTo}
 use Rattle.seq.proofs.Lists.{not-true-false, same-intro, any-none, any-ext, any-count, count-ext, count-le, count-none, count-sum}
+use Rattle.seq.proofs.Members.{any-false, count-tab}
 use Rattle.seq.proofs.Tab.{tab-getD, upTo-intro, upTo-elim, length-upTo}
 use Rattle.table.specs.declared.Table.{Table}
 use Rattle.table.specs.Record.{recordVerdict}
 use Rattle.verdict.specs.declared.Verdict.the-variants.{Accepted}
 use Rattle.filter.proofs.Image.{blackOf, Shows, image-shows, differs-shows}
-use Rattle.filter.proofs.Lists.{any-false, count-tab}
 use Rattle.filter.proofs.Operator.{passes-shows, pass-image, passes-image}
 use Rattle.filter.proofs.System.{system, lawful}
 

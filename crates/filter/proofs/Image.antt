@@ -25,10 +25,10 @@ use Rattle.morph.specs.System.{Image}
 use Rattle.morph.specs.Exchange.{complement}
 use Rattle.seq.specs.Lists.{all, one, same}
 use Rattle.seq.specs.Tab.{tab}
+use Rattle.seq.proofs.Grid.{cell-below, grid-at, by-cell}
 use Rattle.seq.proofs.Lists.{clash, either, one-le}
+use Rattle.seq.proofs.Members.{all-getD, all-tab, getD-map}
 use Rattle.seq.proofs.Tab.{length-tab, getD-tab, tab-getD}
-use Rattle.filter.proofs.Index.{index-below, by-pixel, at-pixel}
-use Rattle.filter.proofs.Lists.{all-getD, all-tab, getD-map}
 
 pub eqb-one : (a b : Bool) → eqb (one a) (one b) ≡ same a b
 eqb-one true true = refl
@@ -89,7 +89,7 @@ module _ {w h : ℕ} where
   shows-black {X = X} s i l = rw (s .value i l) (eqb-one (X i) true ∙ same-black (X i))
 
   pub shows-pixel : {img : List ℕ} {X : Image ℕ} → Shows w h img X → (r c : ℕ) → r < h → c < w → pixel w img r c ≡ one (X (r * w + c))
-  shows-pixel s r c i j = s .value (r * w + c) (index-below i j)
+  shows-pixel s r c i j = s .value (r * w + c) (cell-below i j)
 
   -- the test for a value
   pub shows-value : {img : List ℕ} {X : Image ℕ} → Shows w h img X → (v : Bool) (r c : ℕ) → r < h → c < w
@@ -102,7 +102,7 @@ module _ {w h : ℕ} where
   pub shows-pixels : {f : ℕ → ℕ → ℕ} {X : Image ℕ} → ((r c : ℕ) → r < h → c < w → f r c ≡ one (X (r * w + c)))
       → Shows w h (tab (λ i. f (i / w) (i % w)) (w * h)) X
   shows-pixels {f} {X} e =
-      shows-tab (by-pixel w h (λ i. f (i / w) (i % w) ≡ one (X i)) (λ r c i j. at-pixel f r j ∙ e r c i j))
+      shows-tab (by-cell w h (λ i. f (i / w) (i % w) ≡ one (X i)) (λ r c i j. grid-at w f r c j ∙ e r c i j))
 
   pub shows-exchange : {img : List ℕ} {X : Image ℕ} → Shows w h img X → Shows w h (exchange img) (complement X)
   unfolding exchange

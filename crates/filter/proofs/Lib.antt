@@ -1,5 +1,3 @@
-pub mod Lists
-pub mod Index
 pub mod Masks
 pub mod Accepted
 pub mod Placed

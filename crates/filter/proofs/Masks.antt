@@ -17,9 +17,9 @@ use borrow.Author.Tests.{leb-true, ltb-true, ltb-false, eq-eqb, not-true, not-fa
 use Rattle.seq.specs.Bits.{bit, bitsOf}
 use Rattle.seq.specs.Tab.{upTo}
 use Rattle.seq.proofs.Lists.{either, and-left, and-right, any-elim, keep-intro, keep-elim}
+use Rattle.seq.proofs.Members.{not-some}
 use Rattle.seq.proofs.Tab.{upTo-intro, upTo-elim, first-nothing}
 use Rattle.table.specs.Mask.{across, down, positions, largestMask, validMask, meets, sumInside, sum, partner, unpartnered, persistentFor}
-use Rattle.filter.proofs.Lists.{not-some}
 
 pub position-intro : (m : ℕ) {n : ℕ} → n < 25 → bit m n ≡ true → List·Memᴰ n (positions m)
 unfolding positions bitsOf

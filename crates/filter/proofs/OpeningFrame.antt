@@ -16,7 +16,7 @@ use lib.Arith.{digits-lt, digits-div, digits-mod}
 use lib.Dec.{leb, ltb, eqb}
 use lib.ListN.{getD}
 use Rattle.seq.specs.Loops.{Swept}
-use Rattle.seq.proofs.Loops.{below-or-from}
+use Rattle.seq.proofs.Tests.{lt-or-le}
 use Rattle.filter.specs.Erosion.{colours, margin, stride, span, within, framedIs, Framed}
 use Rattle.filter.specs.Image.{pixel, IsImage}
 use Rattle.filter.proofs.OpeningCodes.{binary-at, colours-ext, pixel-colours}
@@ -38,8 +38,8 @@ within-next n r g =
     (λ a. ⊎-elim
     (λ b. within-true n r a b ∙ sym (within-true (n + 1) r a (omega arith)))
     (λ b. within-high n r b ∙ sym (within-high (n + 1) r (omega arith)))
-    (below-or-from r (n + margin)))
-    (below-or-from r margin)
+    (lt-or-le r (n + margin)))
+    (lt-or-le r margin)
 
 -- a walk along the rows stands at row r: its first pixel's place in the image, and in the frame
 pub record AtRow (w h r flat framed : ℕ) : Type 0 where
@@ -69,7 +69,7 @@ module _ (w h : ℕ) (img : List ℕ) where
 
   no-row : (v r c : ℕ) → framedIs w 0 img v r c ≡ false
   unfolding framedIs
-  no-row v r c = rw (⊎-elim (within-low 0 r) (within-high 0 r) (below-or-from r margin))
+  no-row v r c = rw (⊎-elim (within-low 0 r) (within-high 0 r) (lt-or-le r margin))
 
   other-row : (n v r c : ℕ) → (r ≡ n + margin → ⊥) → framedIs w n img v r c ≡ framedIs w (n + 1) img v r c
   unfolding framedIs
@@ -122,14 +122,14 @@ module _ (w h : ℕ) (img : List ℕ) where
       here : (c : ℕ) → n + margin < stride h → c < stride w → Right (n + margin) c
       here c p q =
           ⊎-elim (λ a. aside c p q (within-low w c a) (inl a))
-          (λ a. ⊎-elim (stored c a) (λ d. aside c p q (within-high w c d) (inr d)) (below-or-from c (w + margin)))
-          (below-or-from c margin)
+          (λ a. ⊎-elim (stored c a) (λ d. aside c p q (within-high w c d) (inr d)) (lt-or-le c (w + margin)))
+          (lt-or-le c margin)
 
       row : (r c : ℕ) → r < stride h → c < stride w → Right r c
       row r c p q =
           ⊎-elim (above r c p q)
           (λ a. ⊎-elim (λ g. subst (λ (k : ℕ). Right k c) g (here c (omega arith) q)) (below r c p q) (eq-or-lt-of-le a))
-          (below-or-from r (n + margin))
+          (lt-or-le r (n + margin))
 
   -- all rows stand in the frame
   pub frame-all : {l : List ℕ} {n : ℕ} → Framed w h n img l → n ≡ h → Framed w h h img l

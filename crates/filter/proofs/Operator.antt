@@ -20,13 +20,13 @@ use Rattle.morph.specs.System.{Image}
 use Rattle.morph.proofs.Operator.{next-cases}
 use Rattle.seq.specs.Lists.{any, all, keep, one, same}
 use Rattle.seq.proofs.Lists.{either, any-elim, any-ext, all-ext, any-map, all-map}
+use Rattle.seq.proofs.Members.{and-cong, any-join, any-keep, all-both}
 use Rattle.seq.proofs.Tab.{upTo-elim}
 use Rattle.table.specs.declared.Table.{Table}
 use Rattle.table.specs.Mask.{across, down, positions}
 use Rattle.table.specs.Record.{masks, persistents}
 use Rattle.filter.proofs.Image.{one-not, blackOf, outside-white, Shows, image-shows, shows-image}
 use Rattle.filter.proofs.Image.{shows-black, shows-pixel, shows-value, shows-pixels}
-use Rattle.filter.proofs.Lists.{and-cong, any-join, any-keep, all-and}
 use Rattle.filter.proofs.Placed.{clamp-below, inside-elim}
 use Rattle.filter.proofs.System.{system, hits-at, blocks-at, listed}
 use Rattle.filter.proofs.Translates.{siteAt, elementsAt, movedAt, translate, translates, blocksAt}
@@ -40,7 +40,7 @@ translates-any w h r c K p =
     any-map (translate w r c K) (all p) (keep whole (positions K))
     ∙ any-keep (λ b. all p (translate w r c K b)) whole (positions K)
     ∙ any-ext _ _ (positions K) (λ b n.
-    ap (λ x. whole b && x) (all-map (movedAt w r c b) p (positions K)) ∙ all-and (inside w h r c b) (λ b'. p (movedAt w r c b b')) (positions K))
+    ap (λ x. whole b && x) (all-map (movedAt w r c b) p (positions K)) ∙ all-both (inside w h r c b) (λ b'. p (movedAt w r c b b')) (positions K))
   where
     whole : ℕ → Bool
     whole b = all (inside w h r c b) (positions K)

@@ -4,8 +4,8 @@
 --     applied-walked       the walk by the opening map
 -- Assumes nothing.
 use mathlib.Core.Bool.{true}
-use mathlib.Core.List.{List, _++_}
-use mathlib.Core.Path.{_≡_, refl, sym, ap, _∙_}
+use mathlib.Core.List.{List}
+use mathlib.Core.Path.{_≡_, refl, ap, _∙_}
 use Prim.Native.Nat.{ℕ, _*_}
 use native.Mathlib.Omega.{arith}
 use lib.Dec.{leb}
@@ -26,7 +26,7 @@ use Rattle.filter.specs.OpeningMap.{openMap}
 use Rattle.filter.specs.Pass.{pass}
 use Rattle.filter.specs.Walk.{walked, Tallied}
 use Rattle.filter.proofs.PassCodeExact.{walked-pass, steps-added, steps-removed}
-use Rattle.filter.proofs.PassCodeSizes.{Sized, sizes-of}
+use Rattle.filter.proofs.PassCodeSizes.{sizes-of}
 
 module _ (t : Table) (w h : ℕ) (px d : List ℕ) where
   pub applied-refused : {x : Refusal} → sizeVerdict w h (length px) (length d) ≡ judged.Refused x → Applied t w h px d d (Refused x)

@@ -4,32 +4,28 @@
 --     accepted-ranged            an accepted table is in range
 --     elements-part, map-part, map-length    elements and opening map, as parts of longer arrays
 -- Assumes nothing.
-use mathlib.Core.Bool.{Bool, true, false, not, _&&_, and-false}
-use mathlib.Core.List.{List, [], _∷_, List·Memᴰ, List·Memᴰ·head, List·Memᴰ·tail}
+use mathlib.Core.Bool.{Bool, true, false, _&&_, and-false}
+use mathlib.Core.List.{List, List·Memᴰ}
 use mathlib.Core.Path.{_≡_, refl, sym, ap, _∙_, subst}
-use Prim.Native.Nat.{ℕ, suc, _+_, _*_, _≤_, _<_}
+use Prim.Native.Nat.{ℕ, _+_, _*_, _≤_, _<_}
 use native.Mathlib.Numerals.{add-one}
 use native.Mathlib.Omega.{arith}
-use borrow.Author.Tests.{leb-true, leb-false, le-leb, lt-leb, lt-ltb, not-false}
+use borrow.Author.Tests.{leb-true, le-leb}
 use lib.Dec.{leb}
 use lib.ListN.{length, getD, take, drop}
 use lib.Seq.{drop-cons, take-at}
 use Rattle.seq.specs.Lists.{all}
-use Rattle.seq.specs.Tab.{first}
 use Rattle.seq.proofs.Lists.{and-left, and-right, and-intro, all-intro}
-use Rattle.seq.proofs.Tab.{length-tab, first-nothing}
-use Rattle.seq.proofs.Tests.{or-none-left}
+use Rattle.seq.proofs.Members.{take-place}
+use Rattle.seq.proofs.Tab.{length-tab}
 use Rattle.table.specs.declared.Table.{Table}
 use Rattle.table.specs.Mask.{validMask}
-use Rattle.table.specs.Record.{maxElements, element, masks, badCount, badElement, badPlace, countRule, persistentRule, meetRule, persistRule, recordVerdict}
-use Rattle.verdict.specs.declared.Verdict.{Verdict}
+use Rattle.table.specs.Record.{maxElements, masks, recordVerdict}
 use Rattle.verdict.specs.declared.Verdict.the-variants.{Accepted}
-use Rattle.verdict.specs.Rules.{refuseAt}
-use Rattle.verdict.proofs.Rules.{judge-accepted, refuseIf-accepted, refuseAt-accepted}
 use Rattle.verdict.specs.Writer.{over}
 use Rattle.filter.specs.OpeningMap.{openMap}
 use Rattle.filter.specs.Walk.{ranged}
-use Rattle.filter.proofs.Lists.{take-place}
+use Rattle.filter.proofs.Accepted.{count-most, element-valid}
 
 module _ (l : List ℕ) (i m : ℕ) (h : i < length l) where
   abbrev binary : List ℕ → Bool
@@ -67,34 +63,13 @@ pub ranged-valid : (t : Table) → ranged t ≡ true → all validMask (masks t)
 unfolding ranged
 ranged-valid t e = and-right (leb (t .count) maxElements) (all validMask (masks t)) e
 
--- the rules of a record
-abbrev rules : Table → List Verdict
-rules t = countRule t ∷ refuseAt (first (badPlace t) maxElements) 4 suc ∷ persistentRule t ∷ meetRule t ∷ persistRule t ∷ []
-
 module _ (t : Table) (ok : recordVerdict t ≡ Accepted) where
-  rule : (v : Verdict) → List·Memᴰ v (rules t) → v ≡ Accepted
-  unfolding recordVerdict
-  rule v i = judge-accepted {vs = rules t} ok i
-
-  -- rule 3
-  counted : leb (t .count) maxElements ≡ true
-  unfolding badCount
-  counted = and-right (leb 1 (t .count)) _ (not-false _ (refuseIf-accepted (badCount t) 3 0 (rule (countRule t) (List·Memᴰ·head refl))))
-
-  -- rule 4
-  place-valid : (k : ℕ) → k < t .count → validMask (element t k) ≡ true
-  unfolding badPlace badElement
-  place-valid k l =
-      let none = refuseAt-accepted _ 4 suc (rule (refuseAt (first (badPlace t) maxElements) 4 suc) (List·Memᴰ·tail (List·Memᴰ·head refl))) in
-      let good = first-nothing (badPlace t) maxElements none k (omega (arith, leb-true (t .count) maxElements counted)) in
-      not-false _ (or-none-left (not (validMask (element t k))) _ (rw (lt-ltb k (t .count) l) at good))
-
   pub accepted-ranged : ranged t ≡ true
   unfolding ranged masks
-  accepted-ranged = and-intro counted (all-intro validMask (masks t) valid)
+  accepted-ranged = and-intro (le-leb _ _ (count-most t ok)) (all-intro validMask (masks t) valid)
     where
       valid : (e : ℕ) → List·Memᴰ e (masks t) → validMask e ≡ true
-      valid e i = let (k, l, q) = take-place (t .count) (t .elements) 0 i in subst (λ (x : ℕ). validMask x ≡ true) (sym q) (place-valid k l)
+      valid e i = let (k, l, q) = take-place (t .count) (t .elements) 0 i in subst (λ (x : ℕ). validMask x ≡ true) (sym q) (element-valid t ok k l)
 
 -- the elements, as a part of the element places
 pub elements-part : (t : Table) {es : List ℕ} → es ≡ t .elements → take (t .count) es ≡ masks t

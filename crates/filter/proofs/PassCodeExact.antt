@@ -12,9 +12,9 @@ use Prim.Native.Nat.{ℕ, zero, suc, _+_, _-_, _*_, _/_, _%_, _≤_, _<_}
 use native.Mathlib.Omega.{arith}
 use lib.Dec.{eqb}
 use lib.ListN.{length, getD}
-use Rattle.seq.specs.Lists.{one, any, all, count}
-use Rattle.seq.specs.Tab.{tab, upTo}
-use Rattle.seq.proofs.Grid.{grid-at, cell-below}
+use Rattle.seq.specs.Lists.{one, all, count}
+use Rattle.seq.specs.Tab.{upTo}
+use Rattle.seq.proofs.Grid.{cell-below, grid-at, by-cell}
 use Rattle.seq.proofs.Lists.{not-true-false, any-ext, all-ext, count-ext}
 use Rattle.seq.proofs.Tab.{getD-tab, tab-ext, upTo-elim}
 use Rattle.table.specs.declared.Table.{Table}
@@ -27,7 +27,6 @@ use Rattle.filter.specs.OpeningMap.{openCode, openMap}
 use Rattle.filter.specs.Pass.{opened, held, passAt, pass}
 use Rattle.filter.specs.Walk.{turns, walkedAt, walked, steps}
 use Rattle.filter.specs.Window.{siteRow, siteCol, window, windowAt}
-use Rattle.filter.proofs.Index.{by-pixel}
 use Rattle.filter.proofs.Kept.{opened-pixel, opened-kept}
 use Rattle.filter.proofs.Masks.{position-elim}
 use Rattle.filter.proofs.Placed.{clamp-below}
@@ -47,10 +46,10 @@ code-of false false (suc zero) l h = refl
 code-of false false (suc (suc v)) l h = absurd (omega arith)
 
 module _ (t : Table) (w h : ℕ) (img : List ℕ) (ok : recordVerdict t ≡ Accepted) (m : IsImage w h img) where
-  abbrev map : List ℕ
-  map = openMap t w h img
+  abbrev codes : List ℕ
+  codes = openMap t w h img
 
-  pub code-at : (r c : ℕ) → r < h → c < w → pixel w map r c ≡ openCode t w h img r c
+  pub code-at : (r c : ℕ) → r < h → c < w → pixel w codes r c ≡ openCode t w h img r c
   unfolding openMap
   code-at r c i j = getD-tab (λ k. openCode t w h img (k / w) (k % w)) (w * h) (r * w + c) 0 (cell-below i j) ∙ grid-at w (openCode t w h img) r c j
 
@@ -85,22 +84,22 @@ module _ (t : Table) (w h : ℕ) (img : List ℕ) (ok : recordVerdict t ≡ Acce
         alone false = refl
     code-own (suc (suc v)) l e = absurd (omega arith)
 
-    matched-held : (v : ℕ) → v ≤ 1 → matched (masks t) (window w h map r c) (v + 1) ≡ held t w h img v r c
+    matched-held : (v : ℕ) → v ≤ 1 → matched (masks t) (window w h codes r c) (v + 1) ≡ held t w h img v r c
     unfolding matched held
     matched-held v l =
-        any-ext (λ e. all (λ n. eqb (windowAt (window w h map r c) n) (v + 1)) (positions e))
+        any-ext (λ e. all (λ n. eqb (windowAt (window w h codes r c) n) (v + 1)) (positions e))
         (λ e. all (λ n. opened t w h img v (siteRow h r n) (siteCol w c n)) (positions e)) (masks t)
-        (λ e k. all-ext (λ n. eqb (windowAt (window w h map r c) n) (v + 1)) (λ n. opened t w h img v (siteRow h r n) (siteCol w c n)) (positions e)
+        (λ e k. all-ext (λ n. eqb (windowAt (window w h codes r c) n) (v + 1)) (λ n. opened t w h img v (siteRow h r n) (siteCol w c n)) (positions e)
         (λ n q. site n (position-elim e q .0)))
       where
-        site : (n : ℕ) → n < 25 → eqb (windowAt (window w h map r c) n) (v + 1) ≡ opened t w h img v (siteRow h r n) (siteCol w c n)
+        site : (n : ℕ) → n < 25 → eqb (windowAt (window w h codes r c) n) (v + 1) ≡ opened t w h img v (siteRow h r n) (siteCol w c n)
         site n q =
             let a = clamp-below h r (down n) i in
             let b = clamp-below w c (across n) j in
-            ap (λ (x : ℕ). eqb x (v + 1)) (window-at w h map r c n q ∙ code-at (siteRow h r n) (siteCol w c n) a b)
+            ap (λ (x : ℕ). eqb x (v + 1)) (window-at w h codes r c n q ∙ code-at (siteRow h r n) (siteCol w c n) a b)
             ∙ code-opened v (siteRow h r n) (siteCol w c n) l a b
 
-    pub turns-held : turns (masks t) w h map r c (pixel w img r c) ≡ held t w h img (1 - pixel w img r c) r c
+    pub turns-held : turns (masks t) w h codes r c (pixel w img r c) ≡ held t w h img (1 - pixel w img r c) r c
     unfolding turns
     turns-held = ap₂ _&&_ (ap (λ (x : ℕ). eqb x 0) (code-at r c i j) ∙ code-own v low refl) other ∙ joined (opened t w h img v r c) refl
       where
@@ -110,30 +109,30 @@ module _ (t : Table) (w h : ℕ) (img : List ℕ) (ok : recordVerdict t ≡ Acce
         low : pixel w img r c ≤ 1
         low = binary-at img (r * w + c) (m .binary)
 
-        other : matched (masks t) (window w h map r c) (2 - pixel w img r c) ≡ held t w h img (1 - pixel w img r c) r c
-        other = ap (matched (masks t) (window w h map r c)) (omega (arith, low)) ∙ matched-held (1 - pixel w img r c) (omega arith)
+        other : matched (masks t) (window w h codes r c) (2 - pixel w img r c) ≡ held t w h img (1 - pixel w img r c) r c
+        other = ap (matched (masks t) (window w h codes r c)) (omega (arith, low)) ∙ matched-held (1 - pixel w img r c) (omega arith)
 
         -- an opened pixel is not held against its value
         joined : (b : Bool) → opened t w h img (pixel w img r c) r c ≡ b → (not b && held t w h img (1 - pixel w img r c) r c) ≡ held t w h img (1 - pixel w img r c) r c
         joined true e = sym (opened-kept t w h img ok m (pixel w img r c) r c low i j e)
         joined false e = refl
 
-    walked-at : walkedAt (masks t) w h img map r c ≡ passAt t w h img r c
+    walked-at : walkedAt (masks t) w h img codes r c ≡ passAt t w h img r c
     unfolding walkedAt passAt
     walked-at = ap (λ (b : Bool). cond b (1 - pixel w img r c) (pixel w img r c)) turns-held
 
   -- at every index
-  walked-index : (k : ℕ) → k < w * h → walkedAt (masks t) w h img map (k / w) (k % w) ≡ passAt t w h img (k / w) (k % w)
+  walked-index : (k : ℕ) → k < w * h → walkedAt (masks t) w h img codes (k / w) (k % w) ≡ passAt t w h img (k / w) (k % w)
   walked-index =
-      by-pixel w h (λ k. walkedAt (masks t) w h img map (k / w) (k % w) ≡ passAt t w h img (k / w) (k % w))
-      (λ r c i j. grid-at w (walkedAt (masks t) w h img map) r c j ∙ walked-at r c i j ∙ sym (grid-at w (passAt t w h img) r c j))
+      by-cell w h (λ k. walkedAt (masks t) w h img codes (k / w) (k % w) ≡ passAt t w h img (k / w) (k % w))
+      (λ r c i j. grid-at w (walkedAt (masks t) w h img codes) r c j ∙ walked-at r c i j ∙ sym (grid-at w (passAt t w h img) r c j))
 
-  pub walked-pass : walked (masks t) w h img map ≡ pass t w h img
+  pub walked-pass : walked (masks t) w h img codes ≡ pass t w h img
   unfolding walked pass
-  walked-pass = tab-ext (λ k. walkedAt (masks t) w h img map (k / w) (k % w)) (λ k. passAt t w h img (k / w) (k % w)) (w * h) walked-index
+  walked-pass = tab-ext (λ k. walkedAt (masks t) w h img codes (k / w) (k % w)) (λ k. passAt t w h img (k / w) (k % w)) (w * h) walked-index
 
   step-at : (u v k : ℕ) → List·Memᴰ k (upTo (w * h))
-      → (eqb (getD img k 0) u && eqb (walkedAt (masks t) w h img map (k / w) (k % w)) v) ≡ (eqb (getD img k 0) u && eqb (getD (pass t w h img) k 0) v)
+      → (eqb (getD img k 0) u && eqb (walkedAt (masks t) w h img codes (k / w) (k % w)) v) ≡ (eqb (getD img k 0) u && eqb (getD (pass t w h img) k 0) v)
   unfolding pass
   step-at u v k q =
       let l = upTo-elim (w * h) q in
@@ -141,17 +140,17 @@ module _ (t : Table) (w h : ℕ) (img : List ℕ) (ok : recordVerdict t ≡ Acce
       (walked-index k l ∙ sym (getD-tab (λ k. passAt t w h img (k / w) (k % w)) (w * h) k 0 l))
 
   steps-pass : (u v : ℕ)
-      → steps (masks t) w h img map u v (w * h) ≡ count (λ k. eqb (getD img k 0) u && eqb (getD (pass t w h img) k 0) v) (upTo (length img))
+      → steps (masks t) w h img codes u v (w * h) ≡ count (λ k. eqb (getD img k 0) u && eqb (getD (pass t w h img) k 0) v) (upTo (length img))
   unfolding steps
   steps-pass u v =
-      count-ext (λ k. eqb (getD img k 0) u && eqb (walkedAt (masks t) w h img map (k / w) (k % w)) v)
+      count-ext (λ k. eqb (getD img k 0) u && eqb (walkedAt (masks t) w h img codes (k / w) (k % w)) v)
       (λ k. eqb (getD img k 0) u && eqb (getD (pass t w h img) k 0) v) (upTo (w * h)) (step-at u v)
       ∙ ap (λ (n : ℕ). count (λ k. eqb (getD img k 0) u && eqb (getD (pass t w h img) k 0) v) (upTo n)) (sym (m .sized))
 
-  pub steps-added : steps (masks t) w h img map 0 1 (w * h) ≡ added img (pass t w h img)
+  pub steps-added : steps (masks t) w h img codes 0 1 (w * h) ≡ added img (pass t w h img)
   unfolding added
   steps-added = steps-pass 0 1
 
-  pub steps-removed : steps (masks t) w h img map 1 0 (w * h) ≡ removed img (pass t w h img)
+  pub steps-removed : steps (masks t) w h img codes 1 0 (w * h) ≡ removed img (pass t w h img)
   unfolding removed
   steps-removed = steps-pass 1 0

@@ -2,12 +2,11 @@
 --     sizes-wide, sizes-high, sizes-count, sizes-area, sizes-good     the verdict, by the tests that the code makes
 --     Sized w h n m, sizes-of      what an accepted verdict says
 -- Assumes nothing.
-use mathlib.Core.Bool.{true, false, not, _&&_, and-false}
+use mathlib.Core.Bool.{true, false, not, and-false}
 use mathlib.Core.List.{[], _∷_, List·Memᴰ, List·Memᴰ·head, List·Memᴰ·tail}
 use mathlib.Core.Path.{_≡_, refl}
 use Prim.Native.Nat.{ℕ, _*_, _≤_, _<_}
 use native.Mathlib.Nat.{mul-le-mul}
-use native.Mathlib.Omega.{arith}
 use borrow.Author.Tests.{eq-eqb, ne-eqb, eqb-true, le-ltb, lt-ltb, ltb-false, not-false}
 use lib.Dec.{eqb}
 use Rattle.image.specs.File.{areaRule}

@@ -12,6 +12,7 @@ use borrow.Author.Tests.{le-leb, le-ltb, lt-ltb}
 use lib.Dec.{leb, lit<}
 use lib.ListN.{length, getD}
 use Rattle.seq.specs.Lists.{all}
+use Rattle.seq.proofs.Members.{all-tab}
 use Rattle.seq.proofs.Tab.{tab-getD}
 use Rattle.image.specs.File.{pixelVerdict}
 use Rattle.image.proofs.PixelsOf.{PixelsGood, pixels-good}
@@ -24,7 +25,6 @@ use Rattle.verdict.specs.Writer.{over}
 use Rattle.filter.specs.Image.{IsImage}
 use Rattle.filter.specs.Preview.{fromBits, pattern, fiveOrMore, preview, previewVerdict, previewArea}
 use Rattle.filter.specs.Window.{siteRow, siteCol, window, windowAt}
-use Rattle.filter.proofs.Lists.{all-tab}
 use Rattle.filter.proofs.WindowLaws.{window-at, binary-at}
 
 -- the answer at a pixel

@@ -16,7 +16,7 @@ use lib.ListN.{length, replicate}
 use lib.Seq.{take-at}
 use Rattle.seq.specs.Bits.{bit, bitsOf}
 use Rattle.seq.specs.Lists.{any, all, one}
-use Rattle.seq.specs.Tab.{tab, upTo}
+use Rattle.seq.specs.Tab.{upTo}
 use Rattle.seq.proofs.Bits.{bitsOf-elim}
 use Rattle.seq.proofs.Lists.{and-left, and-right, any-ext, all-ext, all-elim}
 use Rattle.seq.proofs.Tab.{tab-ext, upTo-intro}

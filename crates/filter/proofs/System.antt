@@ -16,12 +16,12 @@ use lib.Dec.{ltb}
 use borrow.Author.Tests.{ltb-true, lt-ltb}
 use Rattle.morph.specs.System.{System, Lawful, Listed}
 use Rattle.seq.specs.Tab.{upTo}
+use Rattle.seq.proofs.Grid.{cell-below, grid-at, by-cell}
 use Rattle.seq.proofs.Lists.{either}
 use Rattle.seq.proofs.Tab.{upTo-intro}
 use Rattle.table.specs.declared.Table.{Table}
 use Rattle.table.specs.Record.{recordVerdict}
 use Rattle.verdict.specs.declared.Verdict.the-variants.{Accepted}
-use Rattle.filter.proofs.Index.{index-below, by-pixel, at-pixel}
 use Rattle.filter.proofs.Translates.{elementsAt, blocksAt, elements-meet}
 use Rattle.filter.proofs.Translates.{Block, block-elim, block-intro, block-contains, block-moved, block-meets}
 
@@ -34,7 +34,7 @@ system t w h = record { hits = pixelwise w h (elementsAt t w h); blocks = pixelw
 module _ (w h : ℕ) (f : ℕ → ℕ → List (List ℕ)) where
   pixelwise-at : (r : ℕ) {c : ℕ} → r < h → c < w → pixelwise w h f (r * w + c) ≡ f r c
   unfolding pixelwise
-  pixelwise-at r i j = rw (lt-ltb _ _ (index-below i j)) (at-pixel f r j)
+  pixelwise-at r {c} i j = rw (lt-ltb _ _ (cell-below i j)) (grid-at w f r c j)
 
   -- outside there is nothing
   pixelwise-inside : (i : ℕ) {A : List ℕ} → List·Memᴰ A (pixelwise w h f i) → i < w * h
@@ -46,7 +46,7 @@ module _ (w h : ℕ) (f : ℕ → ℕ → List (List ℕ)) where
       → ((r c : ℕ) → r < h → c < w → (A : List ℕ) → List·Memᴰ A (f r c) → P (r * w + c) A)
       → (i : ℕ) (A : List ℕ) → List·Memᴰ A (pixelwise w h f i) → P i A
   pixelwise-by P k i A m =
-      by-pixel w h (λ n. List·Memᴰ A (pixelwise w h f n) → P n A) (λ r c x y n. k r c x y A (rw (pixelwise-at r x y) at n)) i
+      by-cell w h (λ n. List·Memᴰ A (pixelwise w h f n) → P n A) (λ r c x y n. k r c x y A (rw (pixelwise-at r x y) at n)) i
       (pixelwise-inside i m) m
 
 module _ (t : Table) (w h : ℕ) where

@@ -20,12 +20,12 @@ use Rattle.filter.specs.Pass.{placed, inside}
 use Rattle.filter.specs.Window.{siteRow, siteCol}
 use Rattle.seq.specs.Lists.{all, keep, join}
 use Rattle.seq.proofs.Lists.{all-intro, all-elim, keep-intro, keep-elim, map-intro, map-elim, join-intro, join-elim}
+use Rattle.seq.proofs.Members.{map-ext}
 use Rattle.table.specs.declared.Table.{Table}
 use Rattle.table.specs.Mask.{across, down, positions}
 use Rattle.table.specs.Record.{masks, persistents, recordVerdict}
 use Rattle.verdict.specs.declared.Verdict.the-variants.{Accepted}
 use Rattle.filter.proofs.Accepted.{masks-meet, masks-persist}
-use Rattle.filter.proofs.Lists.{map-ext}
 use Rattle.filter.proofs.Masks.{sum-down, sum-across}
 use Rattle.filter.proofs.Placed.{placed-again, fits-again, clamp-placed, Within, inside-elim, inside-intro}
 

@@ -7,12 +7,11 @@
 --     Preview           it is the plain rule of those elements
 --     previewVerdict w h px n, previewArea w h px area    the call: it refuses as the image writer does
 -- Assumes nothing.
-use mathlib.Core.Bool.{Bool}
 use mathlib.Core.List.{List, [], _∷_, _++_, map}
 use mathlib.Core.Path.{_≡_}
 use Prim.Native.Nat.{ℕ, _+_, _*_, _/_, _%_, _^_}
 use lib.Dec.{leb, eqb}
-use lib.ListN.{length, getD, replicate}
+use lib.ListN.{length, replicate}
 use Rattle.filter.specs.Image.{IsImage}
 use Rattle.filter.specs.Plain.{plain}
 use Rattle.filter.specs.Window.{window, windowAt}

@@ -1,47 +1,29 @@
--- Images: when two are equal, and those of a file.
---     same-image, differs-self    no pixel differs exactly when two images are equal
+-- Images of a file.
 --     sized-sides                 sides within the limits are at least 1
 --     none-above                  no pixel is above 1
 --     file-sized, file-image      an accepted file holds an image of a size within the limits
 -- Assumes nothing.
 use mathlib.Core.Bool.{true, false, not, _&&_}
 use mathlib.Core.List.{List, [], _∷_, List·Memᴰ}
-use mathlib.Core.Logic.{⊎-elim}
-use mathlib.Core.Path.{_≡_, refl, ap}
-use Prim.Native.Nat.{ℕ, _*_, _/_, _%_, _≤_, _<_}
+use mathlib.Core.Path.{_≡_}
+use Prim.Native.Nat.{ℕ, _*_, _/_, _%_, _≤_}
 use native.Mathlib.Omega.{arith}
-use borrow.Author.Tests.{leb-true, eqb-true, not-false, le-ltb, le-leb, eq-eqb}
+use borrow.Author.Tests.{leb-true, not-false, le-ltb, le-leb}
 use lib.Dec.{leb, ltb, eqb}
-use lib.ListN.{length, getD}
-use lib.Seq.{ext-getD}
-use Rattle.filter.specs.Image.{IsImage, differs, differsAt}
+use lib.ListN.{length}
+use Rattle.filter.specs.Image.{IsImage}
 use Rattle.image.specs.File.{fileVerdict, pixelsOf, rasterPixel, paddingSet}
 use Rattle.image.specs.Header.{headerForm, widthOf, heightOf, raster}
 use Rattle.image.specs.RoundTrip.{imageOf}
 use Rattle.image.specs.Size.{badSize, within, maxSide, rowBytes}
 use Rattle.seq.specs.Lists.{any}
-use Rattle.seq.specs.Tab.{upTo, first}
-use Rattle.seq.proofs.Lists.{clash, either, and-left, and-right, any-intro, any-none, all-elim, all-intro}
-use Rattle.seq.proofs.Tab.{length-tab, tab-mem, upTo-intro}
+use Rattle.seq.specs.Tab.{first}
+use Rattle.seq.proofs.Lists.{and-left, and-right, any-none, all-elim, all-intro}
+use Rattle.seq.proofs.Tab.{length-tab, tab-mem}
 use Rattle.verdict.specs.declared.Verdict.{Verdict}
 use Rattle.verdict.specs.declared.Verdict.the-variants.{Accepted}
 use Rattle.verdict.specs.Rules.{refuseIf, refuseAt, judge}
 use Rattle.verdict.proofs.Rules.{orElse-left, orElse-right, refuseIf-accepted}
-
--- two images of one length of which no pixel differs are equal
-pub same-image : (a b : List ℕ) → length a ≡ length b → differs a b ≡ false → a ≡ b
-unfolding differs
-same-image a b l h = ext-getD 0 a b l at
-  where
-    at : (i : ℕ) → i < length a → getD a i 0 ≡ getD b i 0
-    at i k =
-        ⊎-elim (eqb-true (getD a i 0) (getD b i 0)) (λ e. clash (any-intro (differsAt a b) (upTo-intro k) (ap not e)) h)
-        (either (eqb (getD a i 0) (getD b i 0)))
-
--- no pixel of an image differs from itself
-pub differs-self : (a : List ℕ) → differs a a ≡ false
-unfolding differs
-differs-self a = any-none (differsAt a a) (upTo (length a)) (λ i m. ap not (eq-eqb (getD a i 0) (getD a i 0) refl))
 
 -- sides within the limits are at least 1
 pub sized-sides : (w h : ℕ) → badSize w h ≡ false → (1 ≤ w) × (1 ≤ h)

@@ -4,7 +4,7 @@
 --     load-entered                 after it the job holds its entry
 --     load-keeps                   the relation after it
 -- Assumes nothing.
-use mathlib.Core.Bool.{Bool, true, false, _||_}
+use mathlib.Core.Bool.{false, _||_}
 use mathlib.Core.List.{List, [], _∷_}
 use mathlib.Core.Path.{_≡_, refl}
 use Prim.Native.Nat.{ℕ, _*_, _≤_}
@@ -27,6 +27,7 @@ use Rattle.image.specs.File.{fileVerdict}
 use Rattle.image.specs.Header.{widthOf, heightOf}
 use Rattle.image.specs.RoundTrip.{imageOf}
 use Rattle.seq.proofs.Lists.{clash}
+use Rattle.seq.proofs.Tests.{or-none-left, or-none-right}
 use Rattle.table.specs.declared.Table.{Table}
 use Rattle.table.specs.Record.{recordVerdict}
 use Rattle.verdict.specs.declared.Verdict.{Verdict}
@@ -53,22 +54,13 @@ record Fits (t : Table) (f : List ℕ) (s : State) : Type 0 where
   first-long : widthOf f * heightOf f ≤ length (s .first)
   second-long : widthOf f * heightOf f ≤ length (s .second)
 
--- an alternative that fails fails on both sides
-or-false-left : (a b : Bool) → (a || b) ≡ false → a ≡ false
-or-false-left true b h = h
-or-false-left false b h = refl
-
-or-false-right : (a b : Bool) → (a || b) ≡ false → b ≡ false
-or-false-right true b h = clash refl h
-or-false-right false b h = h
-
 fits : (t : Table) (f : List ℕ) (s : State) → refusedBy (load t f) (lengthsOf s) empty ≡ Accepted → Fits t f s
 unfolding refusedBy lengthsOf
 fits t f s a = record {
   table = orElse-left (recordVerdict t) rest a;
   file = orElse-left (fileVerdict f) (judge (areas ∷ [])) after-table;
-  first-long = ltb-false (length (s .first)) _ (or-false-left (ltb (length (s .first)) size) (ltb (length (s .second)) size) long);
-  second-long = ltb-false (length (s .second)) _ (or-false-right (ltb (length (s .first)) size) (ltb (length (s .second)) size) long);
+  first-long = ltb-false (length (s .first)) _ (or-none-left (ltb (length (s .first)) size) (ltb (length (s .second)) size) long);
+  second-long = ltb-false (length (s .second)) _ (or-none-right (ltb (length (s .first)) size) (ltb (length (s .second)) size) long);
 }
   where
     size : ℕ

@@ -18,6 +18,7 @@ use borrow.Author.Tests.{le-ltb}
 use lib.ListN.{length}
 use Rattle.filter.specs.Image.{IsImage, added, removed, differs}
 use Rattle.filter.specs.Pass as filter
+use Rattle.filter.proofs.Counts.{differs-equal}
 use Rattle.history.specs.declared.Job.{Job}
 use Rattle.history.specs.declared.Passed.the-variants as answer
 use Rattle.history.specs.History.{Entry, nextOf, joined, marked, passed}
@@ -26,7 +27,6 @@ use Rattle.history.specs.Pass.{nextImage, nowAdded, nowRemoved, exceeds,
 use Rattle.history.specs.State.{State, pixels}
 use Rattle.history.proofs.Areas.{next-job, next-first, next-second, next-changed, next-stable}
 use Rattle.history.proofs.Entries.{passed-settled, passed-changed, passed-quiet}
-use Rattle.history.proofs.Images.{same-image}
 use Rattle.history.proofs.Related.{jobOf, Held}
 use Rattle.history.proofs.Row.{Row, next, row-image, row-bound, row-changes}
 use Rattle.history.proofs.Sound.{ready-held}
@@ -140,7 +140,7 @@ module _ (th : Theory) {s : State} {e : Entry} {n : ℕ} (r : Held s e n) where
 
   -- no pixel differs, so the new image is the last one
   pub same-next : differs (e .last) (nextOf e) ≡ false → nextOf e ≡ e .last
-  same-next d = sym (same-image (e .last) (nextOf e) (last-image .sized ∙ sym (next-of-image .sized)) d)
+  same-next d = sym (differs-equal (e .last) (nextOf e) (last-image .sized ∙ sym (next-of-image .sized)) d)
 
   -- the new image is the last one, which is stable
   held-quiet : differs (e .last) (nextOf e) ≡ false → Held (withNext (stableJob s) s) (marked e) (n + 1)

@@ -15,8 +15,8 @@ use native.Mathlib.Omega.{arith}
 use lib.ListN.{length}
 use Rattle.filter.specs.Image.{IsImage, black, added, removed, differs, differsAt}
 use Rattle.filter.specs.Pass.{pass, passes, Stable}
+use Rattle.filter.proofs.Counts.{equal-differs}
 use Rattle.history.specs.Lists.{oldest, sumSteps}
-use Rattle.history.proofs.Images.{differs-self}
 use Rattle.history.proofs.Theory.{Theory}
 use Rattle.morph.specs.Bound.{total}
 use Rattle.seq.specs.Lists.{one, count}
@@ -76,7 +76,7 @@ module _ {t : Table} {w h : ℕ} where
       → Stable t w h (oldest img earlier) → earlier ≡ []
   row-stable th ok alone s = refl
   row-stable th ok (next {img = img} {before = before} {earlier = earlier} e d r) s =
-      clash d (ap (differs before) (img-first ∙ sym before-first) ∙ differs-self before)
+      clash d (ap (differs before) (img-first ∙ sym before-first) ∙ equal-differs before before refl)
     where
       stays : (n : ℕ) → passes t w h n (oldest before earlier) ≡ oldest before earlier
       stays n = th .all-rest t w h ok .stays (oldest before earlier) 0 n s (omega arith)

@@ -5,11 +5,12 @@
 --     operated                demand 2 on passes
 -- Assumes nothing.
 use mathlib.Core.Logic.{_↔_, _⊎_, inl, inr}
-use mathlib.Core.Path.{_≡_, sym, ap, _∙_}
+use mathlib.Core.Path.{_≡_, refl, sym, ap, _∙_}
 use Prim.Native.Nat.{ℕ}
 use native.Mathlib.Omega.{arith}
 use Rattle.filter.specs.Image.{differs}
 use Rattle.filter.specs.Pass as filter
+use Rattle.filter.proofs.Counts.{equal-differs}
 use Rattle.history.specs.declared.Passed.the-variants as passing
 use Rattle.history.specs.Demand3.{Operated}
 use Rattle.history.specs.History.{Entry, nextOf, joined, marked, passed}
@@ -17,7 +18,6 @@ use Rattle.history.specs.Pass.{Outcome, passOf}
 use Rattle.history.specs.State.{State}
 use Rattle.history.specs.View.{viewOf}
 use Rattle.history.proofs.Entries.{passed-settled, passed-changed, passed-quiet}
-use Rattle.history.proofs.Images.{differs-self}
 use Rattle.history.proofs.Pass.{resting, changes, quiet, turn, same-next, pass-held}
 use Rattle.history.proofs.Related.{Held}
 use Rattle.history.proofs.Sound.{ready-held}
@@ -46,7 +46,7 @@ module _ (th : Theory) {s : State} {e : Entry} {n : ℕ} (r : Held s e n) where
       elim (turn th r) [
         | resting q a ↦ (λ x. r .stable q, λ x. ap (λ (o : Outcome). o .answer) a)
         | changes q d a
-            ↦ (λ x. absurd (let z : _≡_ {A = ℕ} 0 1 = cc in omega arith), λ x. clash d (ap (differs (e .last)) x ∙ differs-self (e .last)))
+            ↦ (λ x. absurd (let z : _≡_ {A = ℕ} 0 1 = cc in omega arith), λ x. clash d (ap (differs (e .last)) x ∙ equal-differs (e .last) (e .last) refl))
         | quiet q d a ↦ (λ x. same-next th r d, λ x. ap (λ (o : Outcome). o .answer) a)
       ]
 

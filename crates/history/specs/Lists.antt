@@ -6,7 +6,7 @@
 --     firstOf e         the first image of an entry
 --     overSteps f e     f from image to next image, summed over the steps of an entry
 -- Assumes nothing.
-use mathlib.Core.Bool.{Bool, cond}
+use mathlib.Core.Bool.{cond}
 use mathlib.Core.List.{List, [], _∷_}
 use Prim.Native.Nat.{ℕ, zero, suc, _+_, _*_}
 use lib.ListN.{length}

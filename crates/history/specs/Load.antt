@@ -2,7 +2,7 @@
 --     loadVerdict t f s    accepted, or number and place
 --     loadState t f s      record and areas afterwards: the second area stays
 -- Assumes nothing.
-use mathlib.Core.Bool.{Bool, not, _||_}
+use mathlib.Core.Bool.{not, _||_}
 use mathlib.Core.List.{List, [], _∷_}
 use Prim.Native.Nat.{ℕ, _*_}
 use lib.Dec.{ltb, eqb}

@@ -3,6 +3,7 @@ use table::Table;
 use verdict::Refusal;
 
 // Stage 0 empty, 1 loaded, 2 stable (01: at rest). An empty record has every field zero.
+#[repr(C)]
 pub struct Job {
     pub stage: u8,
     pub width: usize,

@@ -19,12 +19,12 @@ use Rattle.image.specs.Header.{digits, strict, after, widthPart, heightP
 use Rattle.image.specs.Layout.{rasterStart, headerIf, headerOf, layoutIf, layoutOf}
 use Rattle.image.specs.Size.{badSize, rowBytes}
 use Rattle.image.proofs.HeaderOf.{height-place, raster-part}
-use Rattle.image.proofs.Judged.{orElse-accepted}
 use Rattle.image.proofs.NumberAt.{byte-within}
 use Rattle.seq.proofs.Lists.{and-right}
 use Rattle.seq.specs.Tab.{first}
 use Rattle.verdict.specs.declared.Verdict.{Verdict}
 use Rattle.verdict.specs.Rules.{refusal, refuseAt}
+use Rattle.verdict.proofs.Rules.{orElse-accepted}
 
 record Told (f : List ℕ) (w h start : ℕ) : Type 0 where
   form : headerForm f ≡ true

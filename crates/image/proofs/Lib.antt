@@ -3,7 +3,6 @@ pub mod NumberAt
 pub mod HeaderOf
 pub mod RowBytes
 pub mod Padding
-pub mod Judged
 pub mod LayoutOf
 pub mod Accepted
 pub mod ReadOf

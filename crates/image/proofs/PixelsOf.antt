@@ -12,13 +12,12 @@ use lib.ListN.{length, getD}
 use Rattle.image.specs.File.{pixelVerdict}
 use Rattle.image.specs.Rows.{tooLarge}
 use Rattle.image.specs.Size.{badSize}
-use Rattle.image.proofs.Judged.{orElse-accepted}
 use Rattle.seq.proofs.Tab.{first-none, first-nothing}
 use Rattle.seq.specs.Tab.{first}
 use Rattle.verdict.specs.declared.Verdict.{Verdict}
 use Rattle.verdict.specs.declared.Verdict.the-variants.{Accepted, Refused}
 use Rattle.verdict.specs.Rules.{refusal, refuseIf, refuseAt}
-use Rattle.verdict.proofs.Rules.{orElse-left, orElse-right, refuseIf-accepted, refuseAt-accepted}
+use Rattle.verdict.proofs.Rules.{orElse-left, orElse-right, refuseIf-accepted, refuseAt-accepted, orElse-accepted}
 
 module _ (w h : ℕ) (px : List ℕ) where
   pub pixels-size : badSize w h ≡ true → pixelVerdict w h px ≡ Refused (refusal 10 0)

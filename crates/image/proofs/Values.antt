@@ -12,13 +12,13 @@ use Prim.Native.Nat.{ℕ, _+_, _*_, _/_, _≤_, _<_}
 use native.Mathlib.Omega.{arith}
 use borrow.Author.Count.{below-none, below-more}
 use Rattle.image.specs.Rows.{tooLarge}
-use Rattle.image.proofs.Judged.{refuseAt-map}
 use Rattle.seq.proofs.Grid.{row-below, rowPasses, first-rows}
 use Rattle.seq.proofs.Tab.{first-at, first-none}
 use Rattle.seq.specs.Lists.{isSome}
 use Rattle.seq.specs.Tab.{first}
 use Rattle.verdict.specs.declared.Verdict.the-variants.{Accepted, Refused}
 use Rattle.verdict.specs.Rules.{refusal, refuseAt}
+use Rattle.verdict.proofs.Rules.{refuseAt-map}
 
 pub record RowsClean (px : List ℕ) (w from row : ℕ) : Type 0 where
   pub place : from ≡ row * w

@@ -11,24 +11,23 @@ use native.Mathlib.Omega.{arith}
 use borrow.Author.Tests.{leb-true, eq-eqb, ne-eqb}
 use lib.Dec.{ltb, leb, eqb}
 use lib.ListN.{length, getD}
-use Rattle.filter.proofs.Lists.{all-getD}
 use Rattle.history.specs.Collect.{collected, collectVerdict, collectWritten, collectOutput, collectState}
 use Rattle.history.specs.declared.Job.{Job}
 use Rattle.history.specs.State.{State, image, emptyJob, soundRule, loadedRule, readyVerdict}
 use Rattle.image.specs.File.{pixelVerdict, imageBytes, writeVerdict, imageWritten, imageOutput}
-use Rattle.image.proofs.Judged.{orElse-accepted}
 use Rattle.image.proofs.PixelsOf.{good-pixels}
 use Rattle.job.specs.declared.Emptied.{Emptied}
 use Rattle.job.specs.Core.{emptied}
 use Rattle.job.specs.Ready.{Ready}
 use Rattle.job.proofs.Ready.{accepted-ready, ready-image}
+use Rattle.seq.proofs.Members.{all-getD}
 use Rattle.verdict.specs.declared.Refusal.{Refusal}
 use Rattle.verdict.specs.declared.Verdict.{Verdict}
 use Rattle.verdict.specs.declared.Verdict.the-variants.{Accepted, Refused}
 use Rattle.verdict.specs.declared.Written.{Written}
 use Rattle.verdict.specs.declared.Written.the-variants as writing
 use Rattle.verdict.specs.Rules.{refusal, refuseIf, orElse, judge}
-use Rattle.verdict.proofs.Rules.{judge-append}
+use Rattle.verdict.proofs.Rules.{judge-append, orElse-accepted}
 
 abbrev pub Collected : State → List ℕ → Emptied → List ℕ → Type 0
 Collected s out r after = (r ≡ emptied (collectWritten (length out) s) (collectState (length out) s)) × (after ≡ collectOutput out s)

@@ -19,7 +19,6 @@ use Rattle.image.specs.declared.ImageRead.the-variants as reading
 use Rattle.image.specs.File.{fileVerdict, pixelsOf, imageVerdict, imageRead, imageArea, areaRule}
 use Rattle.image.specs.Header.{widthOf, heightOf}
 use Rattle.image.specs.RoundTrip.{imageOf}
-use Rattle.image.proofs.Judged.{orElse-accepted}
 use Rattle.job.specs.declared.Loaded.{Loaded}
 use Rattle.job.specs.Core.{loaded}
 use Rattle.seq.proofs.Tab.{length-tab}
@@ -30,7 +29,7 @@ use Rattle.verdict.specs.declared.Verdict.{Verdict}
 use Rattle.verdict.specs.declared.Verdict.the-variants.{Accepted, Refused}
 use Rattle.verdict.specs.Rules.{refusal, orElse}
 use Rattle.verdict.specs.Writer.{over}
-use Rattle.verdict.proofs.Rules.{orElse-right, refuseIf-accepted}
+use Rattle.verdict.proofs.Rules.{orElse-right, refuseIf-accepted, orElse-accepted}
 
 abbrev pub LoadedAs : Table → List ℕ → State → Loaded → List ℕ → Type 0
 LoadedAs t f s r after = (r ≡ loaded (loadVerdict t f s) (loadState t f s)) × (after ≡ loadState t f s .first)

@@ -7,8 +7,7 @@
 --     modified 𝓢   π = (id ∧ ψβ) ∨ ψα
 --     Heijmans 𝓢   what Proposition 6.7 asks of ψ and α, and that `next` is π
 -- Assumes nothing.
-use mathlib.Core.Bool.{Bool, true, cond, not, _&&_, _||_}
-use mathlib.Core.List.{List}
+use mathlib.Core.Bool.{cond, not, _&&_, _||_}
 use mathlib.Core.Path.{_≡_}
 use Rattle.seq.specs.Lists.{any, all, same}
 use Rattle.morph.specs.System.{System, Image}

@@ -5,8 +5,7 @@
 --     iterate 𝓢 n X      n passes
 --     changes 𝓢 X n p    pass n, counted from 0, changes p
 -- Assumes nothing.
-use mathlib.Core.Bool.{Bool, true, cond, not}
-use mathlib.Core.List.{List}
+use mathlib.Core.Bool.{Bool, cond, not}
 use Prim.Native.Nat.{ℕ, zero, suc}
 use Rattle.seq.specs.Lists.{any, all, same}
 use Rattle.morph.specs.System.{System, Image}

@@ -1,5 +1,6 @@
 -- The front of a list, and one element more: where a loop that reads a list from the front stands.
 --     any-append, all-append               the tests over two lists
+--     any-snoc, all-snoc                   one element more at a list's end
 --     any-front, all-front, count-front    the tests over the front of i + 1 elements
 -- Assumes nothing.
 use mathlib.Core.Bool.{Bool, true, false, _&&_, _||_, or-false, and-true}
@@ -30,18 +31,22 @@ module _ {ℓ} {A : Type ℓ} (p : A → Bool) where
       step true e = e
       step false e = refl
 
+  pub any-snoc : (l : List A) (a : A) → any p (l ++ a ∷ []) ≡ (any p l || p a)
+  any-snoc l a = any-append l (a ∷ []) ∙ ap (λ (b : Bool). any p l || b) (or-false (p a))
+
+  pub all-snoc : (l : List A) (a : A) → all p (l ++ a ∷ []) ≡ (all p l && p a)
+  all-snoc l a = all-append l (a ∷ []) ∙ ap (λ (b : Bool). all p l && b) (and-true (p a))
+
   module _ (l : List A) (i : ℕ) (d : A) (h : i < length l) where
     -- the front of i + 1 elements
     front-more : take (i + 1) l ≡ take i l ++ getD l i d ∷ []
     front-more = rw add-one (take-suc l i d h)
 
     pub any-front : any p (take (i + 1) l) ≡ (any p (take i l) || p (getD l i d))
-    any-front =
-        ap (any p) front-more ∙ any-append (take i l) (getD l i d ∷ []) ∙ ap (λ (b : Bool). any p (take i l) || b) (or-false (p (getD l i d)))
+    any-front = ap (any p) front-more ∙ any-snoc (take i l) (getD l i d)
 
     pub all-front : all p (take (i + 1) l) ≡ (all p (take i l) && p (getD l i d))
-    all-front =
-        ap (all p) front-more ∙ all-append (take i l) (getD l i d ∷ []) ∙ ap (λ (b : Bool). all p (take i l) && b) (and-true (p (getD l i d)))
+    all-front = ap (all p) front-more ∙ all-snoc (take i l) (getD l i d)
 
     pub count-front : count p (take (i + 1) l) ≡ count p (take i l) + one (p (getD l i d))
     count-front = ap (count p) front-more ∙ count-append p (take i l) (getD l i d ∷ []) ∙ omega arith

@@ -4,6 +4,7 @@
 --     index-row                the row of an index below w · h is below h
 --     next-column, next-row    the index one column on, and the index one row on
 --     cell-below, row-below    a cell and a whole row of h rows lie below w · h
+--     by-cell                  what holds at every row and column holds at every index
 --     grid-at                  the table at the index r · w + c is g r c
 --     grid-row                 the rows before r, and row r, are the rows before r + 1
 --     fill-cell, fill-row      a list that is filled row by row: one cell more, one row more
@@ -13,7 +14,7 @@
 use mathlib.Core.Bool.{Bool, false}
 use mathlib.Core.List.{List, _++_}
 use mathlib.Core.Option.{Option, none, some, Option·map}
-use mathlib.Core.Path.{_≡_, refl, sym, ap, ap₂, _∙_}
+use mathlib.Core.Path.{_≡_, refl, sym, ap, ap₂, _∙_, subst}
 use Prim.Native.Nat.{ℕ, zero, suc, _+_, _*_, _/_, _%_, _≤_, _<_}
 use native.Mathlib.Nat.{zero-mul, mul-comm, mul-le-mul-right, div-lt-iff-lt-mul, mod-lt, div-add-mod'}
 use native.Mathlib.Omega.{arith}
@@ -50,6 +51,17 @@ cell-below {r} {h} {w} {c} p q = omega (arith, digits-lt p q, mul-comm w h)
 pub row-below : {r h : ℕ} (w : ℕ) → r < h → (r + 1) * w ≤ w * h
 row-below {r} {h} w p = let q : r + 1 ≤ h = omega arith in omega (arith, mul-le-mul-right w q, mul-comm w h)
 
+-- a product that is above some number has a first factor above 0
+factor-pos : (i w h : ℕ) → i < w * h → 0 < w
+factor-pos i zero h p = omega (arith, zero-mul h)
+factor-pos i (suc w) h p = omega arith
+
+-- an index is that of its row and column
+pub by-cell {ℓ} : (w h : ℕ) (P : ℕ → Type ℓ) → ((r c : ℕ) → r < h → c < w → P (r * w + c)) → (i : ℕ) → i < w * h → P i
+by-cell w h P f i l =
+    let pos : 0 < w = factor-pos i w h l in
+    subst P (div-add-mod' i w) (f (i / w) (i % w) (index-row i w h pos l) (mod-lt i pos))
+
 module _ {ℓ} {A : Type ℓ} (w : ℕ) (g : ℕ → ℕ → A) where
   pub grid-at : (r c : ℕ) → c < w → grid w g (r * w + c) ≡ g r c
   grid-at r c h = ap₂ g (cell-row r h) (cell-column r h)
@@ -71,11 +83,6 @@ module _ {ℓ} {A : Type ℓ} (w : ℕ) (g : ℕ → ℕ → A) where
   pub stored-row : {d l l′ : List A} {i : ℕ} (r : ℕ) → Stored (grid w g) d i l (r * w) → l′ ≡ sets l (i + r * w) (tab (g r) w)
       → Stored (grid w g) d i l′ ((r + 1) * w)
   stored-row r s e = rw (← next-row r w) (stored-run (g r) w s (λ c b. sym (grid-at r c b)) e)
-
--- a product that is above some number has a first factor above 0
-factor-pos : (i w h : ℕ) → i < w * h → 0 < w
-factor-pos i zero h p = omega (arith, zero-mul h)
-factor-pos i (suc w) h p = omega arith
 
 -- some cell of row r passes the test of its index
 abbrev pub rowPasses : (ℕ → Bool) → ℕ → ℕ → Bool

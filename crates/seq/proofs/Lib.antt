@@ -11,3 +11,4 @@ pub mod Notes
 pub mod Loops
 pub mod Rows
 pub mod Fronts
+pub mod Members

@@ -1,33 +1,27 @@
 -- The laws of a loop that goes along a list and stores at each index.
---     below-or-from                  a number is below a bound, or from it on
 --     sweep-none, sweep-more         a loop's start and one store
 --     sweep-ahead, sweep-end         what the next store finds; the same bound
 --     sweep-join                     a stretch is followed by the next
 --     sweep-front                    a stretch from the list's front, as a table before the rest of the list
---     all-snoc, any-snoc, keep-snoc  one element more at a list's end
+--     keep-snoc                      one element more at a list's end
 --     bits-set, bits-clear           one bit more of a number is looked at, and is set or not
 -- Assumes nothing.
-use mathlib.Core.Bool.{Bool, true, false, cond, _&&_, _||_, and-true, and-assoc, or-false, or-assoc}
+use mathlib.Core.Bool.{Bool, true, false, cond}
 use mathlib.Core.List.{List, [], _∷_, _++_, append-nil}
-use mathlib.Core.Logic.{_⊎_, inl, inr, ⊎-elim}
+use mathlib.Core.Logic.{⊎-elim}
 use mathlib.Core.Path.{_≡_, refl, sym, ap, _∙_, subst}
 use Prim.Native.Nat.{ℕ, _+_, _-_, _≤_, _<_}
 use native.Mathlib.Nat.{eq-or-lt-of-le}
 use native.Mathlib.Numerals.{add-one}
 use native.Mathlib.Omega.{arith}
-use borrow.Author.Tests.{ltb-true, ltb-false}
-use lib.Dec.{ltb}
 use lib.ListN.{length, getD, drop, set, length-append, length-drop, length-set, List·getD-append}
 use lib.Seq.{ext-getD, getD-append-add, getD-drop, getD-set-same, getD-set-other}
 use Rattle.seq.specs.Bits.{bit, bitsOf}
-use Rattle.seq.specs.Lists.{any, all, keep}
+use Rattle.seq.specs.Lists.{keep}
 use Rattle.seq.specs.Loops.{Swept}
 use Rattle.seq.specs.Tab.{tab, upTo}
-use Rattle.seq.proofs.Lists.{either}
 use Rattle.seq.proofs.Tab.{length-tab, getD-tab, tab-suc}
-
-pub below-or-from : (i n : ℕ) → (i < n) ⊎ (n ≤ i)
-below-or-from i n = ⊎-elim (λ t. inl (ltb-true i n t)) (λ t. inr (ltb-false i n t)) (either (ltb i n))
+use Rattle.seq.proofs.Tests.{lt-or-le}
 
 pub sweep-none : (f : ℕ → ℕ) (d : List ℕ) (lo : ℕ) → Swept f d d lo lo
 sweep-none f d lo = record { long = refl; inner = λ j a b. absurd (omega arith); before = λ j a. refl; after = λ j a. refl }
@@ -62,10 +56,10 @@ sweep-join {f} {g} {d} {l} {m} {lo} {mid} {hi} s t a b e =
     record { long = t .long ∙ s .long; inner = inner; before = λ j c. t .before j (omega arith) ∙ s .before j c; after = λ j c. t .after j c ∙ s .after j (omega arith) }
   where
     inner : (j : ℕ) → lo ≤ j → j < hi → getD m j 0 ≡ f j
-    inner j p q = ⊎-elim (λ c. t .before j c ∙ s .inner j p c) (λ c. t .inner j c q ∙ e j c q) (below-or-from j mid)
+    inner j p q = ⊎-elim (λ c. t .before j c ∙ s .inner j p c) (λ c. t .inner j c q ∙ e j c q) (lt-or-le j mid)
 
 pub sweep-front : {f : ℕ → ℕ} {d l : List ℕ} {n : ℕ} → Swept f d l 0 n → n ≤ length d → l ≡ tab f n ++ drop n d
-sweep-front {f} {d} {l} {n} s h = ext-getD 0 l (tab f n ++ drop n d) long (λ i q. ⊎-elim (front i) (rest i) (below-or-from i n))
+sweep-front {f} {d} {l} {n} s h = ext-getD 0 l (tab f n ++ drop n d) long (λ i q. ⊎-elim (front i) (rest i) (lt-or-le i n))
   where
     long : length l ≡ length (tab f n ++ drop n d)
     long = s .long ∙ simp (length-append, length-tab, length-drop) (omega arith)
@@ -80,14 +74,6 @@ sweep-front {f} {d} {l} {n} s h = ext-getD 0 l (tab f n ++ drop n d) long (λ i 
         s .after i q ∙ sym (ap (λ (k : ℕ). getD (tab f n ++ drop n d) k 0) e ∙ getD-append-add (tab f n) (drop n d) (i - n) 0 ∙ getD-drop n d (i - n) 0 ∙ rw b)
 
 module _ {ℓ} {A : Type ℓ} where
-  pub all-snoc : (p : A → Bool) (l : List A) (a : A) → all p (l ++ a ∷ []) ≡ (all p l && p a)
-  all-snoc p [] a = and-true (p a)
-  all-snoc p (x ∷ l) a = ap (λ (t : Bool). p x && t) (all-snoc p l a) ∙ sym (and-assoc (p x) (all p l) (p a))
-
-  pub any-snoc : (p : A → Bool) (l : List A) (a : A) → any p (l ++ a ∷ []) ≡ (any p l || p a)
-  any-snoc p [] a = or-false (p a)
-  any-snoc p (x ∷ l) a = ap (λ (t : Bool). p x || t) (any-snoc p l a) ∙ sym (or-assoc (p x) (any p l) (p a))
-
   pub keep-snoc : (p : A → Bool) (l : List A) (a : A) → keep p (l ++ a ∷ []) ≡ keep p l ++ keep p (a ∷ [])
   keep-snoc p [] a = refl
   keep-snoc p (x ∷ l) a = step (p x) (keep-snoc p l a)

@@ -129,12 +129,12 @@ bytes-placed t l out {i} {j} h e q s =
     let last = numberBytes (t .persistent) in
     s
     ∙ ap (λ (o : List ℕ). sets o j last) (ap (λ (k : ℕ). sets (sets l 0 first) k (firstBytes t (t .count))) at-elements ∙ sets-append first (firstBytes t (t .count)) l 0)
-    ∙ ap (λ (k : ℕ). sets (sets l 0 (first ++ firstBytes t (t .count))) k last) at-last
+    ∙ ap (λ (k : ℕ). sets (sets l 0 (first ++ firstBytes t (t .count))) k last) at-persistent
     ∙ sets-append (first ++ firstBytes t (t .count)) last l 0
     ∙ sets-front (first ++ firstBytes t (t .count) ++ last) l h
   where
     at-elements : i ≡ 0 + length (numberBytes (t .count))
     at-elements = omega (arith, length-number (t .count))
 
-    at-last : j ≡ 0 + length (numberBytes (t .count) ++ firstBytes t (t .count))
-    at-last = omega (arith, length-number (t .count), length-append (numberBytes (t .count)) (firstBytes t (t .count)))
+    at-persistent : j ≡ 0 + length (numberBytes (t .count) ++ firstBytes t (t .count))
+    at-persistent = omega (arith, length-number (t .count), length-append (numberBytes (t .count)) (firstBytes t (t .count)))

@@ -26,12 +26,11 @@ use Rattle.table.specs.Reading.{elementsRules, lastRules, CountRead, Las
 use Rattle.table.specs.Record.{badCount, badPersistent, countRule, persistentRule, meetRule, persistRule}
 use Rattle.table.specs.Search.{badNumber}
 use Rattle.table.proofs.Cursor.{rules-refused, rules-read}
-use Rattle.table.proofs.Judging.{orElse-assoc, orElse-accepted}
 use Rattle.verdict.specs.declared.Refusal.{Refusal}
 use Rattle.verdict.specs.declared.Verdict.{Verdict}
 use Rattle.verdict.specs.declared.Verdict.the-variants.{Refused}
 use Rattle.verdict.specs.Rules.{refusal, refuseIf, orElse, judge}
-use Rattle.verdict.proofs.Rules.{judge-append}
+use Rattle.verdict.proofs.Rules.{judge-append, orElse-assoc, orElse-accepted}
 
 -- a list of rules in four parts, the first with a rule of its own at its end
 four : (a : List Verdict) (u : Verdict) (b c d : List Verdict) → judge ((((a ++ u ∷ []) ++ b) ++ c) ++ d) ≡ orElse (judge a) (orElse u (orElse (judge b) (judge (c ++ d))))

@@ -1,5 +1,5 @@
 -- Check lists that go number by number: `rules k` for each k below a bound.
---     orElse-assoc, orElse-accepted, four-accepted    verdicts in a row
+--     four-accepted                        four verdicts in a row
 --     judge-more, judge-each, judge-at     one number more that accepts; each that is accepted; the first that refuses
 -- Assumes nothing.
 use mathlib.Core.List.{List, map}
@@ -17,14 +17,6 @@ use Rattle.verdict.specs.declared.Verdict.{Verdict}
 use Rattle.verdict.specs.declared.Verdict.the-variants.{Accepted, Refused}
 use Rattle.verdict.specs.Rules.{orElse, judge}
 use Rattle.verdict.proofs.Rules.{refused-accepted, judge-append, judge-accepted, accepted-judge}
-
-pub orElse-assoc : (u v w : Verdict) → orElse (orElse u v) w ≡ orElse u (orElse v w)
-orElse-assoc Accepted v w = refl
-orElse-assoc (Refused r) v w = refl
-
-pub orElse-accepted : (v : Verdict) → orElse v Accepted ≡ v
-orElse-accepted Accepted = refl
-orElse-accepted (Refused r) = refl
 
 -- where four verdicts in a row accept, each does
 pub four-accepted : (a b c d : Verdict) → orElse a (orElse b (orElse c d)) ≡ Accepted → (a ≡ Accepted) × (b ≡ Accepted) × (c ≡ Accepted) × (d ≡ Accepted)

@@ -24,13 +24,13 @@ use Rattle.table.specs.Record.{maxElements, element, masks, badCount, ba
 use Rattle.table.specs.Search.{badNumber, lowestBad}
 use Rattle.table.proofs.Front.{Front, bytes-front, front-reads}
 use Rattle.table.proofs.Files.{file-verdict, last-rules, table-eq}
-use Rattle.table.proofs.Judging.{below, judge-more, orElse-accepted}
+use Rattle.table.proofs.Judging.{below, judge-more}
 use Rattle.table.proofs.Places.{bad-within, bad-past, place-lt}
 use Rattle.table.proofs.Positions.{mask-lt}
 use Rattle.table.proofs.Verdicts.{count-le, Sound}
 use Rattle.verdict.specs.declared.Verdict.the-variants.{Accepted}
 use Rattle.verdict.specs.Rules.{refuseIf, orElse, judge}
-use Rattle.verdict.proofs.Rules.{judge-append}
+use Rattle.verdict.proofs.Rules.{judge-append, orElse-accepted}
 
 -- the bytes from element i on
 abbrev after : Table → ℕ → List ℕ

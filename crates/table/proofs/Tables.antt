@@ -22,12 +22,11 @@ use Rattle.table.specs.Number.{numberRules}
 use Rattle.table.specs.Reading.{elementsRules}
 use Rattle.table.specs.Record.{maxElements, element, badElement, badPlace, elementRule}
 use Rattle.table.specs.Search.{badAfter, lowestBad}
-use Rattle.table.proofs.Judging.{orElse-accepted}
 use Rattle.table.proofs.Places.{bad-first, bad-next, bad-within, bad-past}
 use Rattle.verdict.specs.declared.Verdict.{Verdict}
 use Rattle.verdict.specs.declared.Verdict.the-variants.{Accepted}
 use Rattle.verdict.specs.Rules.{refuseIf, orElse, judge}
-use Rattle.verdict.proofs.Rules.{judge-append, judge-accepted, refuseIf-accepted}
+use Rattle.verdict.proofs.Rules.{judge-append, judge-accepted, refuseIf-accepted, orElse-accepted}
 
 module _ (f : List ℕ) (k : ℕ) (l : k < maxElements) where
   pub table-element : k < number f 0 → element (tableOf f) k ≡ number f (suc k)

@@ -18,10 +18,10 @@ use Rattle.table.specs.declared.mask.Search.the-variants.{Found, Nothing
 use Rattle.table.specs.Mask.{validMask}
 use Rattle.table.specs.Record.{maxElements, badCount, badPersistent, countRule, persistentRule, meetRule, persistRule, recordVerdict}
 use Rattle.table.specs.Search.{found, badNumber, lowestBad}
-use Rattle.table.proofs.Judging.{orElse-accepted, four-accepted}
+use Rattle.table.proofs.Judging.{four-accepted}
 use Rattle.verdict.specs.declared.Verdict.the-variants.{Accepted, Refused}
 use Rattle.verdict.specs.Rules.{refusal, refuseAt, orElse}
-use Rattle.verdict.proofs.Rules.{refuseIf-accepted, refuseAt-accepted}
+use Rattle.verdict.proofs.Rules.{refuseIf-accepted, refuseAt-accepted, orElse-accepted}
 
 pub search-lt : (p : ℕ → Bool) (n : ℕ) {s : Search} {k : ℕ} → found s ≡ first p n → s ≡ Found k → k < n
 search-lt p n {s} {k} e q = first-found p n k (sym e ∙ ap found q) .below

@@ -14,7 +14,7 @@ use Prim.Native.Nat.{ℕ, _+_, _-_, _*_, _/_, _%_}
 use lib.Dec.{leb}
 use Rattle.seq.specs.Bits.{bit, bitsOf}
 use Rattle.seq.specs.Lists.{any, isSome}
-use Rattle.seq.specs.Tab.{upTo, first}
+use Rattle.seq.specs.Tab.{first}
 
 abbrev pub across : ℕ → ℕ
 across n = n % 5

@@ -5,7 +5,7 @@
 --     numberRules p bytes the rules 1 and 2 on the number that the bytes start with, at place p
 --     numberBytes n       the number in the fewest groups
 -- Assumes nothing.
-use mathlib.Core.Bool.{Bool, true, false, cond, _&&_}
+use mathlib.Core.Bool.{Bool, cond, _&&_}
 use mathlib.Core.List.{List, [], _∷_}
 use Prim.Native.Nat.{ℕ, suc, _+_, _*_, _/_, _%_, _^_}
 use lib.Dec.{leb, ltb, eqb}

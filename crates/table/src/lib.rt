@@ -15,6 +15,7 @@ ghost use Rattle.table.specs.File.{readTable, writtenTable, tableOutput}
 ghost use Rattle.table.specs.Record.{recordVerdict};
 
 // The structuring elements and the persistent element (01's keeper), as masks of positions. Element places past the count are zero.
+#[repr(C)]
 pub struct Table {
     pub count: usize,
     pub elements: [u32; 64],

@@ -2,11 +2,11 @@
 --     Case        a case with what is expected
 --     meets c     the definitions give what is expected
 -- Assumes nothing.
-use mathlib.Core.Bool.{Bool, true, false, not, _&&_}
+use mathlib.Core.Bool.{Bool, false, not, _&&_}
 use mathlib.Core.List.{List, [], _∷_}
 use Prim.Native.Nat.{ℕ, _-_, _*_, _/_, _%_}
 use lib.Dec.{eqb, leb, ltb}
-use lib.ListN.{length, replicate}
+use lib.ListN.{replicate}
 use Rattle.filter.specs.Image.{differsAt}
 use Rattle.filter.specs.Pass.{opened}
 use Rattle.filter.specs.Plain.{plain}

@@ -1,12 +1,14 @@
 -- The laws of check lists.
+--     orElse-assoc, orElse-accepted, orElse-left, orElse-right   verdicts in a row
 --     judge-append      a list of rules in two parts
 --     judge-accepted    every rule of an accepted list accepts
 --     accepted-judge    a list of rules that all accept
 --     refuseIf-accepted, refuseAt-accepted   what a rule that accepts says of its test, of its search
+--     refuseAt-map      a place that is worked out before or after
 -- Assumes nothing.
 use mathlib.Core.Bool.{Bool, true, false}
 use mathlib.Core.List.{List, [], _∷_, _++_, List·Memᴰ, List·Memᴰ·head, List·Memᴰ·tail}
-use mathlib.Core.Option.{Option, none, some}
+use mathlib.Core.Option.{Option, none, some, Option·map}
 use mathlib.Core.Path.{_≡_, refl, _∙_}
 use Prim.Native.Nat.{ℕ}
 use native.Mathlib.Omega.{arith}
@@ -23,6 +25,14 @@ judge-append (Refused r ∷ vs) ws = refl
 -- a refusal is no acceptance
 pub refused-accepted {ℓ} : {P : Type ℓ} {v : Verdict} {r : Refusal} → v ≡ Refused r → v ≡ Accepted → P
 refused-accepted p q = absurd (let z : _≡_ {A = ℕ} 0 1 = cc in omega arith)
+
+pub orElse-assoc : (u v w : Verdict) → orElse (orElse u v) w ≡ orElse u (orElse v w)
+orElse-assoc Accepted v w = refl
+orElse-assoc (Refused r) v w = refl
+
+pub orElse-accepted : (v : Verdict) → orElse v Accepted ≡ v
+orElse-accepted Accepted = refl
+orElse-accepted (Refused r) = refl
 
 pub orElse-left : (v w : Verdict) → orElse v w ≡ Accepted → v ≡ Accepted
 orElse-left Accepted w e = refl
@@ -48,3 +58,7 @@ refuseIf-accepted false n p e = refl
 pub refuseAt-accepted : (o : Option ℕ) (n : ℕ) (at : ℕ → ℕ) → refuseAt o n at ≡ Accepted → o ≡ none
 refuseAt-accepted none n at e = refl
 refuseAt-accepted (some k) n at e = refused-accepted refl e
+
+pub refuseAt-map : (o : Option ℕ) (n : ℕ) (at : ℕ → ℕ) → refuseAt o n at ≡ refuseAt (Option·map at o) n (λ k. k)
+refuseAt-map none n at = refl
+refuseAt-map (some k) n at = refl

@@ -1,5 +1,4 @@
 -- `filter::apply::pass` meets its contract. Assumes nothing.
-use mathlib.Core.Bool.{true}
 use mathlib.Core.Path.{_≡_, sym, _∙_}
 use borrow.Author.Needs.{needs}
 use borrow.Author.Tests.{not-true, not-false}
@@ -7,7 +6,6 @@ use lib.ListN.{length}
 use Rattle.seq.proofs.Lists.{clash}
 use Rattle.verdict.specs.declared.Verdict.the-variants.{Accepted}
 use Rattle.filter.specs.Applied.{sizeVerdict}
-use Rattle.filter.specs.Walk.{ranged}
 use Rattle.filter.proofs.PassCodeApplied.{applied-refused, applied-unjudged, applied-walked}
 use Rattle.filter.proofs.PassCodeChecks.{accepted-ranged}
 use Rattle.filter.proofs.PassCodeSizes.{sizes-of}

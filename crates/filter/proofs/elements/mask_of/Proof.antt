@@ -1,5 +1,4 @@
 use Rattle.filter.proofs.ElementsLaws.{mask-bits}
-use native.Mathlib.Omega.{arith}
 use borrow.Author.Needs.{needs}
 use Rattle.filter.proofs.elements.mask_of.Statement.{statement}
 use Rattle.filter.proofs.elements.mask_of.Tie as tie

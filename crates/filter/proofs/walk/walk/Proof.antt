@@ -1,6 +1,5 @@
 -- `filter::walk::walk` meets its contract. Assumes nothing.
-use mathlib.Core.Path.{ap, _∙_}
-use Prim.Native.Nat.{ℕ, _-_, _*_}
+use Prim.Native.Nat.{_-_, _*_}
 use native.Mathlib.Nat.{zero-mul, mul-comm, le-antisymm}
 use borrow.Author.Needs.{needs}
 use Rattle.seq.proofs.Grid.{next-row}

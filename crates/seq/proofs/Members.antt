@@ -1,22 +1,23 @@
--- More laws of lists, with no domain word in them.
---     and-cong, and-swap, or-none, not-some      truth values and options
---     any-append, any-join, any-keep, any-false  `any` of two lists, of a join, of what is kept, and where it fails
---     all-and, all-getD, all-tab                 `all` of two tests together, at an element, and of a table
---     map-ext, getD-map, take-place              an image by elements, its element, and where an element of a part stands
---     count-tab                                  counting over a table
+-- Lists and tables, element by element.
+--     and-cong, not-some               truth values and options
+--     any-join, any-keep, any-false    `any` of a join, of what is kept, and where it fails
+--     all-both, all-getD, all-tab      `all` of two tests together, at an element, and of a table
+--     map-ext, getD-map, take-place    an image by elements, its element, and where an element of a part stands
+--     count-tab                        counting over a table
 -- Assumes nothing.
-use mathlib.Core.Bool.{Bool, true, false, cond, _&&_, _||_, or-assoc}
-use mathlib.Core.List.{List, [], _∷_, _++_, map, List·Memᴰ, List·Memᴰ·head, List·Memᴰ·tail, List·Memᴰ·not-nil, List·Memᴰ·cases-cons}
+use mathlib.Core.Bool.{Bool, true, false, cond, _&&_, _||_}
+use mathlib.Core.List.{List, [], _∷_, map, List·Memᴰ, List·Memᴰ·head, List·Memᴰ·tail, List·Memᴰ·not-nil, List·Memᴰ·cases-cons}
 use mathlib.Core.Logic.{⊎-elim}
 use mathlib.Core.Option.{Option, none, some}
-use mathlib.Core.Path.{_≡_, refl, sym, ap, ap₂, _∙_}
+use mathlib.Core.Path.{_≡_, refl, ap, ap₂, _∙_}
 use Prim.Native.Nat.{ℕ, zero, suc, _+_, _<_}
 use native.Mathlib.Nat.{not-suc-le-zero, le-of-suc-le-suc}
 use native.Mathlib.Omega.{arith}
 use lib.ListN.{length, getD, take}
 use Rattle.seq.specs.Lists.{any, all, keep, one, count, join, isSome}
 use Rattle.seq.specs.Tab.{tab, upTo}
+use Rattle.seq.proofs.Fronts.{any-append}
 use Rattle.seq.proofs.Lists.{clash, not-true-false, and-left, and-right, and-intro, any-intro}
 
 -- the second test counts only where the first holds
 pub and-cong : (a : Bool) {b b' : Bool} → (a ≡ true → b ≡ b') → (a && b) ≡ (a && b')
@@ -29,19 +30,11 @@ and-swap true false true d = refl
 and-swap true false false d = refl
 and-swap false b c d = refl
 
-pub or-none : (a b : Bool) → (a || b) ≡ false → a ≡ false
-or-none true b h = h
-or-none false b h = refl
-
 pub not-some {ℓ} : {A : Type ℓ} (o : Option A) → isSome o ≡ false → o ≡ none
 not-some none h = refl
 not-some (some a) h = clash refl h
 
 module _ {ℓ} {A : Type ℓ} where
-  any-append : (p : A → Bool) (l k : List A) → any p (l ++ k) ≡ (any p l || any p k)
-  any-append p [] k = refl
-  any-append p (x ∷ l) k = ap (λ b. p x || b) (any-append p l k) ∙ sym (or-assoc (p x) (any p l) (any p k))
-
   pub any-join : (p : A → Bool) (ls : List (List A)) → any p (join ls) ≡ any (any p) ls
   any-join p [] = refl
   any-join p (l ∷ ls) = any-append p l (join ls) ∙ ap (λ b. any p l || b) (any-join p ls)
@@ -58,9 +51,9 @@ module _ {ℓ} {A : Type ℓ} where
   pub any-false : (p : A → Bool) {a : A} {l : List A} → any p l ≡ false → List·Memᴰ a l → p a ≡ false
   any-false p {a} h m = not-true-false (p a) (λ e. clash (any-intro p m e) h)
 
-  pub all-and : (p q : A → Bool) (l : List A) → (all p l && all q l) ≡ all (λ a. p a && q a) l
-  all-and p q [] = refl
-  all-and p q (x ∷ l) = and-swap (p x) (all p l) (q x) (all q l) ∙ ap (λ b. (p x && q x) && b) (all-and p q l)
+  pub all-both : (p q : A → Bool) (l : List A) → (all p l && all q l) ≡ all (λ a. p a && q a) l
+  all-both p q [] = refl
+  all-both p q (x ∷ l) = and-swap (p x) (all p l) (q x) (all q l) ∙ ap (λ b. (p x && q x) && b) (all-both p q l)
 
   pub all-getD : (p : A → Bool) (l : List A) (d : A) → all p l ≡ true → p d ≡ true → (i : ℕ) → p (getD l i d) ≡ true
   all-getD p [] d h e i = e
