@@ -1,0 +1,21 @@
+/* Two C versions of one pass, to compare the library with. */
+#ifndef BASELINE_H
+#define BASELINE_H
+
+#include "mask_cleaner.h"
+
+enum { MAX_SIDE = 256, MAX_PIXELS = MAX_SIDE * MAX_SIDE };
+
+typedef struct { size_t passes, added, removed; } pass_counts;
+
+/* One pass of an accepted table from image to next (width x height bytes of value 0 and 1 each, at most 256 x 256).
+   Adds to the counts; passes rises by one if a pixel changed. */
+typedef void pass_function(const mask_table *table, size_t width, size_t height, const uint8_t *image, uint8_t *next, pass_counts *counts);
+
+/* As one would write it at once (baseline.c). */
+pass_function plain_pass;
+
+/* Laid out for a vectorising compiler (tuned.c). */
+pass_function tuned_pass;
+
+#endif

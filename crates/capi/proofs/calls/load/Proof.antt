@@ -1,0 +1,23 @@
+-- `capi::calls::load`: the library's answer, turned for C. Assumes nothing.
+use borrow.Author.Needs.{needs}
+use Rattle.capi.proofs.CallsLaws.{load-turned}
+use Rattle.capi.proofs.calls.load.Statement.{statement}
+use Rattle.capi.proofs.calls.load.Tie as tie
+
+load-core-requires : tie.Need-load-core-requires
+load-core-requires c κs = search needs
+
+of-verdict-requires : tie.Need-of-verdict-requires
+of-verdict-requires c κs = search needs
+
+same-length : tie.Need-same-length
+same-length c = search needs
+
+returns : tie.Need-returns
+returns c =
+    let said = c .before .before .before .before .load-core .ensures in
+    (load-turned (said .0) (c .of-verdict .ensures), said .1)
+
+pub load-spec : {M : Type 1} → statement M
+load-spec =
+    tie.close (tie.spec load-core-requires of-verdict-requires same-length returns)

@@ -1,0 +1,46 @@
+-- `capi::mask_view`: by the verdict; on a sound record the pixels are few. Assumes nothing.
+use mathlib.Core.Path.{sym, _∙_}
+use native.Mathlib.Omega.{arith}
+use borrow.Author.Needs.{needs}
+use Rattle.capi.proofs.PartLaws.{part-refused, part-accepted}
+use Rattle.capi.proofs.mask_view.Statement.{statement}
+use Rattle.capi.proofs.mask_view.Tie as tie
+use Rattle.job.proofs.Ready.{accepted-ready}
+use Rattle.job.proofs.Settled.{ready-small}
+
+view-verdict-requires : tie.Need-view-verdict-requires
+view-verdict-requires c κs = search needs
+
+enum-known-checked : tie.Need-enum-known-checked
+enum-known-checked c = search needs
+
+enum-told : tie.Need-enum-told
+enum-told c = search needs
+
+holder-requires : tie.Need-holder-requires
+holder-requires c κs = search needs
+
+mul-t8 : tie.Need-mul-t8
+mul-t8 c =
+    let told = c .before .before in
+    record { fits = omega (arith, ready-small (accepted-ready _ (sym (told .before .before .view-verdict .ensures) ∙ told .enum-told .given .1))) }
+
+returns : tie.Need-returns
+returns c = part-refused _ (sym (c .before .before .before .view-verdict .ensures) ∙ c .before .checked .given .1)
+
+returns-2 : tie.Need-returns-2
+returns-2 c =
+    let told = c .before .before in
+    part-accepted _ (sym (told .before .before .view-verdict .ensures) ∙ told .enum-told .given .1) (c .before .holder .ensures)
+
+pub mask-view-spec : {M : Type 1} → statement M
+mask-view-spec =
+    tie.close
+    (tie.spec
+    view-verdict-requires
+    enum-known-checked
+    enum-told
+    holder-requires
+    mul-t8
+    returns
+    returns-2)

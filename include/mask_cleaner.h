@@ -1,0 +1,188 @@
+/* The mask cleaner for C: tables, images and jobs. Link with libcapi.a (x86-64 Linux).
+
+   A call either does its work or is refused. Every answer starts with `number` and `place`: number 0 means
+   accepted; else number is one of the refusal numbers below, place says where, and all else in the answer is 0. A
+   refused call leaves all lent memory as it was. (One exception: see mask_run.)
+
+   What the caller must see to, since no call can test it:
+   - No pointer is null, also where its length is 0. Each points at as many bytes as its length says.
+   - Memory that a call may write (a pointer without const) overlaps no other memory lent to the same call.
+   - Every call on a job is lent the same two areas in the same order, and between these calls nobody else writes
+     the record or the areas. A record that does not fit its areas is refused by 14 as far as that can be seen.
+   - There are 512 KB of stack: mask_pass and mask_run use most of that. No call uses the heap or static memory, so
+     calls on different memory may run in different threads. */
+#ifndef MASK_CLEANER_H
+#define MASK_CLEANER_H
+
+#include <stddef.h>
+#include <stdint.h>
+
+#ifdef __cplusplus
+extern "C" {
+#endif
+
+/* ---- limits */
+
+#define MASK_MAX_ELEMENTS 64
+#define MASK_MAX_SIDE 256
+#define MASK_MAX_PIXELS 65536     /* bytes of the largest work area */
+#define MASK_MAX_TABLE_FILE 261   /* bytes of the longest table file */
+#define MASK_MAX_IMAGE_FILE 8203  /* bytes of the longest image file */
+
+/* ---- refusals: the number, and its place where that is not 0 */
+
+#define MASK_ACCEPTED 0
+#define MASK_NUMBER_ENDS 1        /* table file: the bytes end within or before a number; which number */
+#define MASK_NUMBER_FORM 2        /* table file: a number of more than four groups, or with a last group of 0; which number */
+#define MASK_ELEMENT_COUNT 3      /* the count of elements is not 1 to 64 */
+#define MASK_ELEMENT_RANGE 4      /* an element is 0, above 33554431, with bit 12, or not above the one before, or, in a record, nonzero past the count; the lowest such */
+#define MASK_ELEMENTS_DISJOINT 5  /* an element shares no position with an earlier one; the lowest such */
+#define MASK_PERSISTENT_RANGE 6   /* the persistent element is 0 or above 33554431; count + 1 */
+#define MASK_NOT_PERSISTENT 7     /* the persistent element is not persistent; the lowest element that misses */
+#define MASK_BYTES_LEFT 8         /* table file: bytes after the persistent element; count + 2 */
+#define MASK_HEADER_FORM 9        /* image file: the header is not `P4`, line feed, width, space, height, line feed */
+#define MASK_SIZE_RANGE 10        /* width or height is not 1 to 256 */
+#define MASK_RASTER_LENGTH 11     /* image file: not as many bytes as its rows need; pixels: not width x height bytes */
+#define MASK_PIXEL_VALUE 12       /* image file: an unused bit is 1; pixels: a byte above 1; the lowest such row, from 0 */
+#define MASK_AREA_SHORT 13        /* a lent output or area is too short */
+#define MASK_UNSOUND 14           /* the record of a job is not one that these calls make, or does not fit its areas */
+#define MASK_NOT_COLLECTED 15     /* load: the job already holds an image */
+#define MASK_NOTHING_LOADED 16    /* the job holds no image */
+#define MASK_NOT_STABLE 17        /* collect: a pass may still change the image */
+
+/* The place of a table's parts: 0 the count, i the i-th element (from 1), count + 1 the persistent element. */
+
+/* ---- records */
+
+/* The structuring elements and the persistent element, as masks: bit 5 * (dy + 2) + (dx + 2) stands for the offset
+   (dx, dy), each from -2 to 2. Element places past the count are 0. */
+typedef struct {
+    size_t count;
+    uint32_t elements[MASK_MAX_ELEMENTS];
+    uint32_t persistent;
+} mask_table;
+
+#define MASK_STAGE_EMPTY 0
+#define MASK_STAGE_LOADED 1
+#define MASK_STAGE_STABLE 2 /* a pass changes nothing any more */
+
+/* A job. It starts with every field 0, as `mask_job job = {0};` makes it; after that only the calls write it. The image
+   is in the first area when `passes` is even, else in the second. */
+typedef struct {
+    uint8_t stage;
+    size_t width;
+    size_t height;
+    size_t passes;  /* passes that changed pixels */
+    size_t added;   /* pixels that went from 0 to 1 */
+    size_t removed; /* pixels that went from 1 to 0 */
+    mask_table table;
+} mask_job;
+
+/* ---- answers */
+
+typedef struct {
+    uint32_t number;
+    size_t place;
+} mask_checked;
+
+typedef struct {
+    uint32_t number;
+    size_t place;
+    mask_table table;
+} mask_table_answer;
+
+typedef struct {
+    uint32_t number;
+    size_t place;
+    size_t width;
+    size_t height;
+} mask_image_size;
+
+typedef struct {
+    uint32_t number;
+    size_t place;
+    size_t length; /* bytes of the file */
+} mask_file_length;
+
+typedef struct {
+    uint32_t number;
+    size_t place;
+    uint32_t stable; /* 1: nothing changed; 0: pixels changed, or refused */
+} mask_progress;
+
+typedef struct {
+    uint32_t number;
+    size_t place;
+    uint32_t area; /* 1: the first, 2: the second; 0: refused */
+    size_t length; /* its first bytes, in row order, one for each pixel: 0 white, 1 black */
+} mask_part;
+
+typedef struct {
+    uint32_t number;
+    size_t place;
+    int64_t balance; /* added - removed */
+    size_t cover;    /* 1000 x black pixels / pixels, cut down */
+} mask_figures_answer;
+
+/* ---- tables */
+
+/* Judges a table record. Refused by 3, 4, 6, 5, 7, in this order. */
+mask_checked mask_table_check(mask_table table);
+
+/* Reads a table file. Refused, number by number, by 1, 2, and then by 3 (the count), 4 (an element) or 6 (the
+   persistent element); after the numbers by 8, 5, 7. The table of a refused answer is all 0. */
+mask_table_answer mask_table_read(const uint8_t *file, size_t file_length);
+
+/* Writes the file of a table to the front of `out`; bytes past it stay. Refused by 3, 4, 6, 5, 7, then 13. */
+mask_file_length mask_table_write(mask_table table, uint8_t *out, size_t out_length);
+
+/* ---- images: raw PBM in one strict form in files; in memory one byte for each pixel, in row order */
+
+/* Reads an image file to the front of `area`; bytes past width x height stay. Refused by 9, 10, 11, 12, then 13. */
+mask_image_size mask_image_read(const uint8_t *file, size_t file_length, uint8_t *area, size_t area_length);
+
+/* Writes the file of an image to the front of `out`; bytes past it stay. Refused by 10, 11, 12, then 13. */
+mask_file_length mask_image_write(size_t width, size_t height, const uint8_t *pixels, size_t pixels_length,
+                                  uint8_t *out, size_t out_length);
+
+/* Fills the front of `area` with the 3 x 3 median of an image; bytes past width x height stay. Refused by 10, 11, 12, then
+   13. */
+mask_checked mask_preview(size_t width, size_t height, const uint8_t *pixels, size_t pixels_length, uint8_t *area,
+                          size_t area_length);
+
+/* ---- jobs */
+
+/* Starts a job: the image of the file in the first area, stage loaded, counts 0. The second area stays. Refused by 14, 15,
+   then as mask_table_check and mask_image_read refuse, with 13 where either area is below width x height bytes. */
+mask_checked mask_load(mask_job *job, mask_table table, const uint8_t *file, size_t file_length, uint8_t *first,
+                       size_t first_length, const uint8_t *second, size_t second_length);
+
+/* One pass of the filter: the new image goes to the area that does not hold the present one. If pixels changed, passes,
+   added and removed rise. If none did, the stage becomes stable and `stable` is 1. At stage stable nothing is written and
+   `stable` is 1. Refused by 14, 16; and by 14 where the counts would rise above the number of pixels, which no job does
+   that only these calls wrote. */
+mask_progress mask_pass(mask_job *job, uint8_t *first, size_t first_length, uint8_t *second, size_t second_length);
+
+/* Passes until one changes nothing; `stable` is then 1. Refused as mask_pass is. The exception: where a later pass is
+   refused by 14, the passes before it stay. */
+mask_progress mask_run(mask_job *job, uint8_t *first, size_t first_length, uint8_t *second, size_t second_length);
+
+/* Where the present image is: the first `length` bytes of the area with the number `area`. Nothing is written. Refused by
+   14, 16. */
+mask_part mask_view(mask_job job, const uint8_t *first, size_t first_length, const uint8_t *second,
+                    size_t second_length);
+
+/* Balance and cover of the present image. Nothing is written. Refused by 14, 16. */
+mask_figures_answer mask_figures(mask_job job, const uint8_t *first, size_t first_length, const uint8_t *second,
+                                 size_t second_length);
+
+/* Ends a job at stage stable: writes the image's file to the front of `out` and sets every field of the record to 0; bytes
+   of `out` past the file, and the areas, stay. Refused by 14, 16, 17, 13. */
+mask_file_length mask_collect(mask_job *job, const uint8_t *first, size_t first_length, const uint8_t *second,
+                              size_t second_length, uint8_t *out, size_t out_length);
+
+#ifdef __cplusplus
+}
+#endif
+
+#endif

@@ -1,0 +1,210 @@
+//! Tables and images for tests and benchmark: 01's tables, random accepted ones, and kinds of images.
+
+use crate::record::TableRecord;
+use crate::reference::image::Image;
+use crate::reference::pass::median_elements;
+use crate::reference::table::{offsets, Offset};
+
+/// A small generator of random numbers (splitmix64): the same seed gives the same cases.
+pub struct Random(u64);
+
+impl Random {
+    pub fn new(seed: u64) -> Random {
+        Random(seed)
+    }
+
+    pub fn number(&mut self) -> u64 {
+        self.0 = self.0.wrapping_add(0x9E37_79B9_7F4A_7C15);
+        let mut z = self.0;
+        z = (z ^ (z >> 30)).wrapping_mul(0xBF58_476D_1CE4_E5B9);
+        z = (z ^ (z >> 27)).wrapping_mul(0x94D0_49BB_1331_11EB);
+        z ^ (z >> 31)
+    }
+
+    /// A number below the bound, which is not 0.
+    pub fn below(&mut self, bound: usize) -> usize {
+        (self.number() % bound as u64) as usize
+    }
+
+    pub fn byte(&mut self) -> u8 {
+        self.number() as u8
+    }
+
+    pub fn bytes(&mut self, length: usize) -> Vec<u8> {
+        (0..length).map(|_| self.byte()).collect()
+    }
+
+    /// True in so many of a hundred cases.
+    pub fn percent(&mut self, percent: usize) -> bool {
+        self.below(100) < percent
+    }
+
+    pub fn choose<'a, T>(&mut self, items: &'a [T]) -> &'a T {
+        &items[self.below(items.len())]
+    }
+}
+
+/// 01's ring: the eight neighbours, kept by 2 × 2.
+pub fn ring() -> TableRecord {
+    TableRecord::new(&[469_440], 405_504)
+}
+
+/// 01's cross: the four neighbours, kept by two side by side.
+pub fn cross() -> TableRecord {
+    TableRecord::new(&[141_440], 12_288)
+}
+
+/// 01's median: the 56 five-point subsets, kept by 4 × 4 without corners.
+pub fn median() -> TableRecord {
+    TableRecord::new(&median_elements(), 13_597_056)
+}
+
+pub fn named_tables() -> [(&'static str, TableRecord); 3] {
+    [("ring", ring()), ("cross", cross()), ("median", median())]
+}
+
+/// A random table that the rules accept, of at most so many elements.
+pub fn random_table(random: &mut Random, most: usize) -> TableRecord {
+    loop {
+        let persistent = random_persistent(random);
+        let elements = random_elements(random, persistent, most);
+        if !elements.is_empty() {
+            return TableRecord::new(&elements, persistent);
+        }
+    }
+}
+
+/// A mask of some points of a random box.
+fn random_persistent(random: &mut Random) -> u32 {
+    let (left, top) = (random.below(5), random.below(5));
+    let (right, bottom) = (left + random.below(5), top + random.below(5));
+    let share = *random.choose(&[50, 80, 100]);
+    let mut mask = 0;
+    for position in 0..25 {
+        let (column, row) = (position % 5, position / 5);
+        let in_box = (left..=right).contains(&column) && (top..=bottom).contains(&row);
+        if in_box && random.percent(share) {
+            mask |= 1 << position;
+        }
+    }
+    mask
+}
+
+/// Elements, rising, each two sharing a position, for which the mask is persistent; none if it cannot be.
+fn random_elements(random: &mut Random, persistent: u32, most: usize) -> Vec<u32> {
+    let partners = partners(persistent);
+    if partners.is_empty() || partners.contains(&Vec::new()) {
+        return Vec::new();
+    }
+    let wanted = 1 + random.below(most);
+    let more = *random.choose(&[0, 0, 10, 30]);
+    let common = if random.percent(50) {
+        random_position(random)
+    } else {
+        0
+    };
+    let mut elements: Vec<u32> = Vec::new();
+    for _ in 0..6 * wanted {
+        let least = partners.iter().fold(0, |e, p| e | *random.choose(p));
+        let element = least | common | random_points(random, more);
+        let shares = elements.iter().all(|e| e & element != 0);
+        if shares && !elements.contains(&element) && elements.len() < wanted {
+            elements.push(element);
+        }
+    }
+    elements.sort_unstable();
+    elements
+}
+
+/// For each offset b of the mask, the positions a (as masks, the centre left out) with b + a in it.
+/// An element with one from each list makes the mask persistent.
+fn partners(persistent: u32) -> Vec<Vec<u32>> {
+    let stays = |b: Offset, a: Offset| b.plus(a).is_some_and(|sum| sum.is_in(persistent));
+    let of = |b: Offset| {
+        let partners = Offset::all().filter(|a| (a.dx, a.dy) != (0, 0) && stays(b, *a));
+        partners.map(|a| 1 << a.position()).collect()
+    };
+    offsets(persistent).into_iter().map(of).collect()
+}
+
+/// One position that is not the centre, as a mask.
+fn random_position(random: &mut Random) -> u32 {
+    let position = random.below(24);
+    1 << if position < 12 {
+        position
+    } else {
+        position + 1
+    }
+}
+
+/// Each position but the centre in so many of a hundred cases.
+fn random_points(random: &mut Random, percent: usize) -> u32 {
+    let centre = 12;
+    let points = (0..25).filter(|i| random.percent(percent) && *i != centre);
+    points.map(|i| 1 << i).sum()
+}
+
+/// The kinds of images.
+#[derive(Clone, Copy, Debug, PartialEq, Eq)]
+pub enum Kind {
+    White,
+    Black,
+    Chessboard,
+    Stripes,
+    /// Stripes of which 5 in 100 pixels are exchanged.
+    Worn,
+    /// 5 in 100 pixels black.
+    Sparse,
+    /// 5 in 100 pixels white.
+    Dense,
+    /// 1 in 2 pixels black.
+    Noise,
+    /// Squares of 4 × 4 pixels, of which 5 in 100 pixels are exchanged.
+    Blocks,
+}
+
+impl Kind {
+    pub const ALL: [Kind; 9] = [
+        Kind::White,
+        Kind::Black,
+        Kind::Chessboard,
+        Kind::Stripes,
+        Kind::Worn,
+        Kind::Sparse,
+        Kind::Dense,
+        Kind::Noise,
+        Kind::Blocks,
+    ];
+
+    pub fn image(self, width: usize, height: usize, random: &mut Random) -> Image {
+        let seed = random.number();
+        Image::from_fn(width, height, |x, y| match self {
+            Kind::White => 0,
+            Kind::Black => 1,
+            Kind::Chessboard => ((x + y) % 2) as u8,
+            Kind::Stripes => stripe(x),
+            Kind::Worn => stripe(x) ^ u8::from(random.percent(5)),
+            Kind::Sparse => u8::from(random.percent(5)),
+            Kind::Dense => u8::from(random.percent(95)),
+            Kind::Noise => u8::from(random.percent(50)),
+            Kind::Blocks => block(x, y, seed) ^ u8::from(random.percent(5)),
+        })
+    }
+}
+
+/// Upright stripes of eight pixels.
+fn stripe(x: usize) -> u8 {
+    (x / 8 % 2) as u8
+}
+
+/// A square's colour, from its place and a seed.
+fn block(x: usize, y: usize, seed: u64) -> u8 {
+    let place = (64 * (y / 4) + x / 4) as u64;
+    (Random::new(seed ^ place).number() & 1) as u8
+}
+
+/// An image of a random kind.
+pub fn random_image(width: usize, height: usize, random: &mut Random) -> Image {
+    let kind = *random.choose(&Kind::ALL);
+    kind.image(width, height, random)
+}

@@ -1,0 +1,134 @@
+//! The C interface, as `include/mask_cleaner.h` declares it. A slice passes as pointer and length.
+//!
+//! A pass or run uses some 350 KB of stack, and the header asks for 512 KB: a main thread (8 MB) and the threads of
+//! tests (2 MB) have it; a thread made with a smaller stack may not.
+
+use crate::record::{JobRecord, TableRecord};
+
+#[repr(C)]
+pub struct Verdict {
+    pub number: u32,
+    pub place: usize,
+}
+
+#[repr(C)]
+pub struct TableRead {
+    pub number: u32,
+    pub place: usize,
+    pub table: TableRecord,
+}
+
+#[repr(C)]
+pub struct ImageSize {
+    pub number: u32,
+    pub place: usize,
+    pub width: usize,
+    pub height: usize,
+}
+
+#[repr(C)]
+pub struct Length {
+    pub number: u32,
+    pub place: usize,
+    pub length: usize,
+}
+
+#[repr(C)]
+pub struct Progress {
+    pub number: u32,
+    pub place: usize,
+    /// 0 changed, 1 at rest.
+    pub stable: u32,
+}
+
+#[repr(C)]
+pub struct Part {
+    pub number: u32,
+    pub place: usize,
+    /// 1 first, 2 second.
+    pub area: u32,
+    pub length: usize,
+}
+
+#[repr(C)]
+pub struct Figures {
+    pub number: u32,
+    pub place: usize,
+    pub balance: i64,
+    pub cover: usize,
+}
+
+extern "C" {
+    pub fn mask_table_check(table: TableRecord) -> Verdict;
+    pub fn mask_table_read(file: *const u8, file_length: usize) -> TableRead;
+    pub fn mask_table_write(table: TableRecord, out: *mut u8, out_length: usize) -> Length;
+    pub fn mask_image_read(
+        file: *const u8,
+        file_length: usize,
+        area: *mut u8,
+        area_length: usize,
+    ) -> ImageSize;
+    pub fn mask_image_write(
+        width: usize,
+        height: usize,
+        pixels: *const u8,
+        pixels_length: usize,
+        out: *mut u8,
+        out_length: usize,
+    ) -> Length;
+    pub fn mask_preview(
+        width: usize,
+        height: usize,
+        pixels: *const u8,
+        pixels_length: usize,
+        area: *mut u8,
+        area_length: usize,
+    ) -> Verdict;
+    pub fn mask_load(
+        job: *mut JobRecord,
+        table: TableRecord,
+        file: *const u8,
+        file_length: usize,
+        first: *mut u8,
+        first_length: usize,
+        second: *const u8,
+        second_length: usize,
+    ) -> Verdict;
+    pub fn mask_pass(
+        job: *mut JobRecord,
+        first: *mut u8,
+        first_length: usize,
+        second: *mut u8,
+        second_length: usize,
+    ) -> Progress;
+    pub fn mask_run(
+        job: *mut JobRecord,
+        first: *mut u8,
+        first_length: usize,
+        second: *mut u8,
+        second_length: usize,
+    ) -> Progress;
+    pub fn mask_view(
+        job: JobRecord,
+        first: *const u8,
+        first_length: usize,
+        second: *const u8,
+        second_length: usize,
+    ) -> Part;
+    pub fn mask_figures(
+        job: JobRecord,
+        first: *const u8,
+        first_length: usize,
+        second: *const u8,
+        second_length: usize,
+    ) -> Figures;
+    pub fn mask_collect(
+        job: *mut JobRecord,
+        first: *const u8,
+        first_length: usize,
+        second: *const u8,
+        second_length: usize,
+        out: *mut u8,
+        out_length: usize,
+    ) -> Length;
+}

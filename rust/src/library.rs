@@ -1,0 +1,226 @@
+//! The library's calls, made safe: a record may hold any values, a slice may have any length.
+//!
+//! Each function is one call of `include/mask_cleaner.h`. After a refusal all that was lent is unchanged,
+//! but for a run that meets a pass refused as unsound: it keeps the passes before.
+//! A thread that calls needs 512 KB of stack.
+
+use crate::ffi;
+use crate::record::{Figures, JobRecord, Progress, Reason, Refusal, TableRecord};
+
+pub fn check_table(table: &TableRecord) -> Result<(), Refusal> {
+    // SAFETY: the record passes by value.
+    let answer = unsafe { ffi::mask_table_check(*table) };
+    verdict(answer.number, answer.place, true)
+}
+
+pub fn read_table(file: &[u8]) -> Result<TableRecord, Refusal> {
+    // SAFETY: the pointer and length are those of a slice that is only read.
+    let answer = unsafe { ffi::mask_table_read(file.as_ptr(), file.len()) };
+    let nothing = answer.table == TableRecord::EMPTY;
+    verdict(answer.number, answer.place, nothing)?;
+    Ok(answer.table)
+}
+
+/// Gives the file's length.
+pub fn write_table(table: &TableRecord, out: &mut [u8]) -> Result<usize, Refusal> {
+    // SAFETY: the pointer and length are those of a slice that nobody else uses.
+    let answer = unsafe { ffi::mask_table_write(*table, out.as_mut_ptr(), out.len()) };
+    verdict(answer.number, answer.place, answer.length == 0)?;
+    Ok(answer.length)
+}
+
+/// Fills the area; gives width and height.
+pub fn read_image(file: &[u8], area: &mut [u8]) -> Result<(usize, usize), Refusal> {
+    // SAFETY: pointers and lengths are those of slices; nobody else uses the area.
+    let answer =
+        unsafe { ffi::mask_image_read(file.as_ptr(), file.len(), area.as_mut_ptr(), area.len()) };
+    let nothing = (answer.width, answer.height) == (0, 0);
+    verdict(answer.number, answer.place, nothing)?;
+    Ok((answer.width, answer.height))
+}
+
+/// Gives the file's length.
+pub fn write_image(
+    width: usize,
+    height: usize,
+    pixels: &[u8],
+    out: &mut [u8],
+) -> Result<usize, Refusal> {
+    // SAFETY: pointers and lengths are those of slices; nobody else uses the output.
+    let answer = unsafe {
+        ffi::mask_image_write(
+            width,
+            height,
+            pixels.as_ptr(),
+            pixels.len(),
+            out.as_mut_ptr(),
+            out.len(),
+        )
+    };
+    verdict(answer.number, answer.place, answer.length == 0)?;
+    Ok(answer.length)
+}
+
+/// Fills the area with the 3 × 3 median of the pixels.
+pub fn preview(width: usize, height: usize, pixels: &[u8], area: &mut [u8]) -> Result<(), Refusal> {
+    // SAFETY: pointers and lengths are those of slices; nobody else uses the area.
+    let answer = unsafe {
+        ffi::mask_preview(
+            width,
+            height,
+            pixels.as_ptr(),
+            pixels.len(),
+            area.as_mut_ptr(),
+            area.len(),
+        )
+    };
+    verdict(answer.number, answer.place, true)
+}
+
+pub fn load(
+    record: &mut JobRecord,
+    table: &TableRecord,
+    file: &[u8],
+    first: &mut [u8],
+    second: &[u8],
+) -> Result<(), Refusal> {
+    // SAFETY: pointers and lengths are those of slices; nobody else uses the record or the first area.
+    let answer = unsafe {
+        ffi::mask_load(
+            record,
+            *table,
+            file.as_ptr(),
+            file.len(),
+            first.as_mut_ptr(),
+            first.len(),
+            second.as_ptr(),
+            second.len(),
+        )
+    };
+    verdict(answer.number, answer.place, true)
+}
+
+pub fn pass(
+    record: &mut JobRecord,
+    first: &mut [u8],
+    second: &mut [u8],
+) -> Result<Progress, Refusal> {
+    // SAFETY: pointers and lengths are those of slices; nobody else uses record and areas.
+    let answer = unsafe {
+        ffi::mask_pass(
+            record,
+            first.as_mut_ptr(),
+            first.len(),
+            second.as_mut_ptr(),
+            second.len(),
+        )
+    };
+    progress(answer)
+}
+
+pub fn run(
+    record: &mut JobRecord,
+    first: &mut [u8],
+    second: &mut [u8],
+) -> Result<Progress, Refusal> {
+    // SAFETY: pointers and lengths are those of slices; nobody else uses record and areas.
+    let answer = unsafe {
+        ffi::mask_run(
+            record,
+            first.as_mut_ptr(),
+            first.len(),
+            second.as_mut_ptr(),
+            second.len(),
+        )
+    };
+    progress(answer)
+}
+
+/// The present image: the first width × height bytes of the area that holds it.
+pub fn view<'a>(
+    record: &JobRecord,
+    first: &'a [u8],
+    second: &'a [u8],
+) -> Result<&'a [u8], Refusal> {
+    // SAFETY: pointers and lengths are those of slices that are only read.
+    let answer = unsafe {
+        ffi::mask_view(
+            *record,
+            first.as_ptr(),
+            first.len(),
+            second.as_ptr(),
+            second.len(),
+        )
+    };
+    let nothing = (answer.area, answer.length) == (0, 0);
+    verdict(answer.number, answer.place, nothing)?;
+    match answer.area {
+        1 => Ok(&first[..answer.length]),
+        2 => Ok(&second[..answer.length]),
+        area => panic!("the library names an area {area}"),
+    }
+}
+
+pub fn figures(record: &JobRecord, first: &[u8], second: &[u8]) -> Result<Figures, Refusal> {
+    // SAFETY: pointers and lengths are those of slices that are only read.
+    let answer = unsafe {
+        ffi::mask_figures(
+            *record,
+            first.as_ptr(),
+            first.len(),
+            second.as_ptr(),
+            second.len(),
+        )
+    };
+    let nothing = (answer.balance, answer.cover) == (0, 0);
+    verdict(answer.number, answer.place, nothing)?;
+    Ok(Figures {
+        balance: answer.balance,
+        cover: answer.cover,
+    })
+}
+
+/// Writes the image file to the output and empties the record; gives the file's length.
+pub fn collect(
+    record: &mut JobRecord,
+    first: &[u8],
+    second: &[u8],
+    out: &mut [u8],
+) -> Result<usize, Refusal> {
+    // SAFETY: pointers and lengths are those of slices; nobody else uses record and output.
+    let answer = unsafe {
+        ffi::mask_collect(
+            record,
+            first.as_ptr(),
+            first.len(),
+            second.as_ptr(),
+            second.len(),
+            out.as_mut_ptr(),
+            out.len(),
+        )
+    };
+    verdict(answer.number, answer.place, answer.length == 0)?;
+    Ok(answer.length)
+}
+
+fn progress(answer: ffi::Progress) -> Result<Progress, Refusal> {
+    verdict(answer.number, answer.place, answer.stable == 0)?;
+    match answer.stable {
+        0 => Ok(Progress::Changed),
+        1 => Ok(Progress::Stable),
+        stable => panic!("the library answers {stable} in place of 0 or 1"),
+    }
+}
+
+/// The verdict of an answer. `nothing` says that all else in it is zero, as it must be in a refusal.
+fn verdict(number: u32, place: usize, nothing: bool) -> Result<(), Refusal> {
+    if number == 0 {
+        assert_eq!(place, 0, "an accepted answer has a place");
+        return Ok(());
+    }
+    assert!(nothing, "a refused answer is not zero throughout");
+    match Reason::from_number(number) {
+        Some(reason) => Err(Refusal { reason, place }),
+        None => panic!("the library refuses by {number}"),
+    }
+}

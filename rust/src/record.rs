@@ -1,0 +1,187 @@
+//! The records of 01 and the answers of its calls: plain data, shared by library, reference and model.
+
+use std::fmt;
+
+/// The places for elements in a table record.
+pub const PLACES: usize = 64;
+
+/// The largest width and the largest height of an image.
+pub const MAX_SIDE: usize = 256;
+
+/// A table as 01's record; any values may stand in it.
+#[repr(C)]
+#[derive(Clone, Copy, Debug, PartialEq, Eq)]
+pub struct TableRecord {
+    pub count: usize,
+    /// Zero past the count.
+    pub elements: [u32; PLACES],
+    /// 01's keeper.
+    pub persistent: u32,
+}
+
+impl TableRecord {
+    pub const EMPTY: TableRecord = TableRecord {
+        count: 0,
+        elements: [0; PLACES],
+        persistent: 0,
+    };
+
+    /// A record of at most 64 elements. Nothing is checked.
+    pub fn new(elements: &[u32], persistent: u32) -> TableRecord {
+        let mut record = TableRecord {
+            count: elements.len(),
+            persistent,
+            ..TableRecord::EMPTY
+        };
+        record.elements[..elements.len()].copy_from_slice(elements);
+        record
+    }
+}
+
+pub const STAGE_EMPTY: u8 = 0;
+pub const STAGE_LOADED: u8 = 1;
+pub const STAGE_STABLE: u8 = 2;
+
+/// A job as 01's record; any values may stand in it.
+#[repr(C)]
+#[derive(Clone, Copy, Debug, PartialEq, Eq)]
+pub struct JobRecord {
+    pub stage: u8,
+    pub width: usize,
+    pub height: usize,
+    pub passes: usize,
+    pub added: usize,
+    pub removed: usize,
+    pub table: TableRecord,
+}
+
+impl JobRecord {
+    pub const EMPTY: JobRecord = JobRecord {
+        stage: STAGE_EMPTY,
+        width: 0,
+        height: 0,
+        passes: 0,
+        added: 0,
+        removed: 0,
+        table: TableRecord::EMPTY,
+    };
+}
+
+/// What an accepted pass or run says.
+#[derive(Clone, Copy, Debug, PartialEq, Eq)]
+pub enum Progress {
+    Changed,
+    /// 01's "at rest".
+    Stable,
+}
+
+/// What accepted figures say.
+#[derive(Clone, Copy, Debug, PartialEq, Eq)]
+pub struct Figures {
+    /// Added less removed.
+    pub balance: i64,
+    /// Black pixels in thousandths of all, cut down.
+    pub cover: usize,
+}
+
+/// 01's refusal numbers.
+#[derive(Clone, Copy, Debug, PartialEq, Eq, PartialOrd, Ord, Hash)]
+#[repr(u32)]
+pub enum Reason {
+    BytesEnd = 1,
+    Groups = 2,
+    Count = 3,
+    Element = 4,
+    Disjoint = 5,
+    Persistent = 6,
+    NotPersistent = 7,
+    BytesAfter = 8,
+    Header = 9,
+    Size = 10,
+    Raster = 11,
+    Unused = 12,
+    Short = 13,
+    Unsound = 14,
+    NotCollected = 15,
+    Empty = 16,
+    NotStable = 17,
+}
+
+impl Reason {
+    pub const ALL: [Reason; 17] = [
+        Reason::BytesEnd,
+        Reason::Groups,
+        Reason::Count,
+        Reason::Element,
+        Reason::Disjoint,
+        Reason::Persistent,
+        Reason::NotPersistent,
+        Reason::BytesAfter,
+        Reason::Header,
+        Reason::Size,
+        Reason::Raster,
+        Reason::Unused,
+        Reason::Short,
+        Reason::Unsound,
+        Reason::NotCollected,
+        Reason::Empty,
+        Reason::NotStable,
+    ];
+
+    pub fn number(self) -> u32 {
+        self as u32
+    }
+
+    pub fn from_number(number: u32) -> Option<Reason> {
+        Reason::ALL.into_iter().find(|r| r.number() == number)
+    }
+
+    fn text(self) -> &'static str {
+        match self {
+            Reason::BytesEnd => "the bytes end within or before a number",
+            Reason::Groups => "a number does not have the fewest groups, or has more than four",
+            Reason::Count => "the number of elements is not 1 to 64",
+            Reason::Element => "an element is out of range or out of order",
+            Reason::Disjoint => "an element shares no position with an earlier one",
+            Reason::Persistent => "the persistent element is out of range",
+            Reason::NotPersistent => "the persistent element is not persistent for an element",
+            Reason::BytesAfter => "bytes follow the table",
+            Reason::Header => "the image header does not have the strict form",
+            Reason::Size => "width or height is not 1 to 256",
+            Reason::Raster => "the number of pixel bytes does not fit the size",
+            Reason::Unused => "an unused bit is 1, or a pixel is above 1",
+            Reason::Short => "an output or area is too short",
+            Reason::Unsound => "the job record is unsound",
+            Reason::NotCollected => "the last image is not yet collected",
+            Reason::Empty => "no image is loaded",
+            Reason::NotStable => "the image is not yet stable",
+        }
+    }
+}
+
+/// A refusal: 01's number and place.
+#[derive(Clone, Copy, Debug, PartialEq, Eq)]
+pub struct Refusal {
+    pub reason: Reason,
+    pub place: usize,
+}
+
+impl Refusal {
+    pub fn at(reason: Reason, place: usize) -> Refusal {
+        Refusal { reason, place }
+    }
+
+    /// A refusal whose place is 0.
+    pub fn of(reason: Reason) -> Refusal {
+        Refusal::at(reason, 0)
+    }
+}
+
+impl fmt::Display for Refusal {
+    fn fmt(&self, f: &mut fmt::Formatter<'_>) -> fmt::Result {
+        let Refusal { reason, place } = self;
+        write!(f, "refused {} {place}: {}", reason.number(), reason.text())
+    }
+}
+
+impl std::error::Error for Refusal {}

@@ -1,0 +1,175 @@
+//! What the tests share: a job's state under the library or the reference, and a tally of answers.
+#![allow(dead_code)]
+
+use mask_cleaner::model::{Answer, Call};
+use mask_cleaner::record::{JobRecord, Reason, Refusal};
+use mask_cleaner::{library, reference};
+use std::collections::BTreeMap;
+use std::io::Write;
+
+/// Prints a line past the capture of the test runner.
+pub fn report(line: &str) {
+    writeln!(std::io::stdout(), "    {line}").expect("standard output takes a line");
+}
+
+/// A job's record and areas.
+#[derive(Clone, Debug, PartialEq, Eq)]
+pub struct State {
+    pub record: JobRecord,
+    pub first: Vec<u8>,
+    pub second: Vec<u8>,
+}
+
+#[derive(Clone, Copy, Debug)]
+pub enum Side {
+    Library,
+    Reference,
+}
+
+impl State {
+    pub fn empty(first: Vec<u8>, second: Vec<u8>) -> State {
+        State {
+            record: JobRecord::EMPTY,
+            first,
+            second,
+        }
+    }
+
+    pub fn areas(&self) -> [usize; 2] {
+        [self.first.len(), self.second.len()]
+    }
+
+    /// The call's answer; `out` is lent to collect.
+    pub fn apply(&mut self, side: Side, call: &Call, out: &mut [u8]) -> Result<Answer, Refusal> {
+        match side {
+            Side::Library => self.by_library(call, out),
+            Side::Reference => self.by_reference(call, out),
+        }
+    }
+
+    fn by_library(&mut self, call: &Call, out: &mut [u8]) -> Result<Answer, Refusal> {
+        let State {
+            record,
+            first,
+            second,
+        } = self;
+        match call {
+            Call::Load { table, file } => {
+                library::load(record, table, file, first, second).map(|()| Answer::Loaded)
+            }
+            Call::Pass => library::pass(record, first, second).map(Answer::Progress),
+            Call::Run => library::run(record, first, second).map(Answer::Progress),
+            Call::View => library::view(record, first, second).map(|p| Answer::Pixels(p.to_vec())),
+            Call::Figures => library::figures(record, first, second).map(Answer::Figures),
+            Call::Collect { .. } => library::collect(record, first, second, out)
+                .map(|length| Answer::File(out[..length].to_vec())),
+        }
+    }
+
+    fn by_reference(&mut self, call: &Call, out: &mut [u8]) -> Result<Answer, Refusal> {
+        use reference::job;
+        let State {
+            record,
+            first,
+            second,
+        } = self;
+        match call {
+            Call::Load { table, file } => {
+                job::load(record, table, file, first, second).map(|()| Answer::Loaded)
+            }
+            Call::Pass => job::pass(record, first, second).map(Answer::Progress),
+            Call::Run => job::run(record, first, second).map(Answer::Progress),
+            Call::View => job::view(record, first, second).map(|p| Answer::Pixels(p.to_vec())),
+            Call::Figures => job::figures(record, first, second).map(Answer::Figures),
+            Call::Collect { .. } => job::collect(record, first, second, out)
+                .map(|length| Answer::File(out[..length].to_vec())),
+        }
+    }
+
+    /// Makes the call by the library and by the reference; answer, record, areas and output must agree.
+    pub fn apply_both(&mut self, call: &Call, out: &mut [u8]) -> Result<Answer, Refusal> {
+        let before = self.clone();
+        let mut other = self.clone();
+        let mut other_out = out.to_vec();
+        let answer = self.apply(Side::Library, call, out);
+        let expected = other.apply(Side::Reference, call, &mut other_out);
+        assert_eq!(answer, expected, "{call:?} on {before:?}");
+        assert_eq!(*self, other, "{call:?} on {before:?}");
+        assert_eq!(out, other_out, "{call:?} on {before:?}");
+        if matches!(call, Call::View) {
+            self.assert_same_part();
+        }
+        answer
+    }
+
+    /// Both views show a part of the same area.
+    fn assert_same_part(&self) {
+        let State {
+            record,
+            first,
+            second,
+        } = self;
+        let part = library::view(record, first, second).map(<[u8]>::as_ptr);
+        let expected = reference::job::view(record, first, second).map(<[u8]>::as_ptr);
+        assert_eq!(part, expected);
+    }
+}
+
+/// How often each answer was given.
+#[derive(Default)]
+pub struct Tally {
+    pub cases: usize,
+    pub accepted: usize,
+    refused: BTreeMap<Reason, BTreeMap<usize, usize>>,
+}
+
+impl Tally {
+    /// Counts an answer and hands it on.
+    pub fn note<T>(&mut self, answer: Result<T, Refusal>) -> Result<T, Refusal> {
+        self.cases += 1;
+        match &answer {
+            Ok(_) => self.accepted += 1,
+            Err(Refusal { reason, place }) => {
+                let places = self.refused.entry(*reason).or_default();
+                *places.entry(*place).or_default() += 1;
+            }
+        }
+        answer
+    }
+
+    /// How many times the reason was given.
+    pub fn times(&self, reason: Reason) -> usize {
+        self.refused.get(&reason).map_or(0, |p| p.values().sum())
+    }
+
+    /// At how many places the reason was given.
+    pub fn places(&self, reason: Reason) -> usize {
+        self.refused.get(&reason).map_or(0, BTreeMap::len)
+    }
+
+    pub fn report(&self, title: &str) {
+        report(&format!(
+            "{title}: {} cases, {} accepted",
+            self.cases, self.accepted
+        ));
+        for reason in self.refused.keys() {
+            let (times, places) = (self.times(*reason), self.places(*reason));
+            let number = reason.number();
+            report(&format!(
+                "  refused by {number}: {times} times, places: {places}"
+            ));
+        }
+    }
+}
+
+/// Refusals that have only one place must be given often, others at several places.
+pub fn assert_reached(tally: &Tally, reasons: &[Reason], single: &[Reason]) {
+    for reason in reasons {
+        assert!(tally.times(*reason) >= 20, "{reason:?} is given too seldom");
+        let needed = if single.contains(reason) { 1 } else { 3 };
+        assert!(
+            tally.places(*reason) >= needed,
+            "{reason:?} at too few places"
+        );
+    }
+}

@@ -1,0 +1,261 @@
+//! Images: the library's reader and writer beside the reference's, on accepted and damaged files and pixels.
+
+mod common;
+
+use common::{assert_reached, Tally};
+use mask_cleaner::cases::{random_image, Random};
+use mask_cleaner::library;
+use mask_cleaner::record::{Reason, Refusal};
+use mask_cleaner::reference::image::{self as reference, Image};
+
+/// Sides around every limit of a byte and of the rules.
+fn sides() -> Vec<usize> {
+    let around = [24, 32, 64, 128, 192];
+    let mut sides: Vec<usize> = (1..=17).collect();
+    sides.extend(around.iter().flat_map(|n| n - 1..=n + 1));
+    sides.extend(250..=256);
+    sides
+}
+
+/// Both readers on areas of the same bytes; these must agree afterwards, and past the image be as before.
+fn read(file: &[u8], area: &mut [u8]) -> Result<(usize, usize), Refusal> {
+    let before = area.to_vec();
+    let mut other = area.to_vec();
+    let answer = library::read_image(file, area);
+    assert_eq!(answer, reference::read(file, &mut other));
+    assert_eq!(area, other);
+    let filled = answer.map_or(0, |(width, height)| width * height);
+    assert_eq!(area[filled..], before[filled..]);
+    answer
+}
+
+/// Both writers, likewise.
+fn write(width: usize, height: usize, pixels: &[u8], out: &mut [u8]) -> Result<usize, Refusal> {
+    let before = out.to_vec();
+    let mut other = out.to_vec();
+    let answer = library::write_image(width, height, pixels, out);
+    assert_eq!(answer, reference::write(width, height, pixels, &mut other));
+    assert_eq!(out, other);
+    let written = answer.unwrap_or(0);
+    assert_eq!(out[written..], before[written..]);
+    answer
+}
+
+/// Reads and writes an image with areas and outputs of several lengths.
+fn round_trip(image: &Image, random: &mut Random, tally: &mut Tally) {
+    let Image {
+        width,
+        height,
+        pixels,
+    } = image;
+    let file = reference::file_of(image);
+    for length in [0, pixels.len() - 1, pixels.len(), pixels.len() + 7] {
+        let mut area = random.bytes(length);
+        let answer = tally.note(read(&file, &mut area));
+        assert_eq!(answer.is_ok(), length >= pixels.len());
+        assert!(answer.is_err() || area[..pixels.len()] == pixels[..]);
+    }
+    for length in [0, file.len() - 1, file.len(), file.len() + 7] {
+        let mut out = random.bytes(length);
+        let answer = tally.note(write(*width, *height, pixels, &mut out));
+        assert_eq!(answer.is_ok(), length >= file.len());
+        assert!(answer.is_err() || out[..file.len()] == file[..]);
+    }
+}
+
+#[test]
+fn images_return() {
+    let mut random = Random::new(20);
+    let mut tally = Tally::default();
+    for width in sides() {
+        for height in sides() {
+            let image = random_image(width, height, &mut random);
+            round_trip(&image, &mut random, &mut tally);
+        }
+    }
+    tally.report("images of all sizes, read and written");
+}
+
+/// The bytes of a file of any size, without regard to the limits.
+fn file_of_size(width: usize, height: usize) -> Vec<u8> {
+    let mut file = format!("P4\n{width} {height}\n").into_bytes();
+    file.resize(file.len() + width.div_ceil(8) * height, 0);
+    file
+}
+
+#[test]
+fn sizes_at_the_limits() {
+    let mut tally = Tally::default();
+    let limits = [0, 1, 255, 256, 257, 258, 999, 1000, usize::MAX];
+    for width in limits {
+        for height in limits {
+            let pixels = width.saturating_mul(height).min(1_000_000);
+            let mut area = vec![7; 1_000_000];
+            if width <= 1000 && height <= 1000 {
+                let _ = tally.note(read(&file_of_size(width, height), &mut area));
+            }
+            let mut out = vec![7; 9000];
+            let given = vec![0; pixels];
+            let _ = tally.note(write(width, height, &given, &mut out));
+            let _ = tally.note(write(width, height, &[], &mut out));
+        }
+    }
+    let refused = Err(Refusal::of(Reason::Size));
+    assert_eq!(read(&file_of_size(257, 1), &mut [0; 300]), refused);
+    assert_eq!(read(&file_of_size(1, 257), &mut [0; 300]), refused);
+    assert_eq!(read(&file_of_size(256, 1), &mut [0; 300]), Ok((256, 1)));
+    tally.report("sizes at the limits");
+}
+
+/// Strings that stand for the header.
+fn strange_header(random: &mut Random, width: usize, height: usize) -> String {
+    match random.below(14) {
+        0 => format!("P1\n{width} {height}\n"),
+        1 => format!("P4\n# made by hand\n{width} {height}\n"),
+        2 => format!("P4 {width} {height}\n"),
+        3 => format!("P4\n{width}  {height}\n"),
+        4 => format!("P4\n{width}\n{height}\n"),
+        5 => format!("P4\n0{width} {height}\n"),
+        6 => format!("P4\n{width} 00{height}\n"),
+        7 => format!("P4\r\n{width} {height}\r\n"),
+        8 => format!("P4\n{width}{width}{width}{width} {height}\n"),
+        9 => format!("P4\n{width} \n"),
+        10 => format!("P4\n {height}\n"),
+        11 => format!("P4\n{width} {height} "),
+        12 => format!("P4\n+{width} {height}\n"),
+        _ => format!("p4\n{width} {height}\n"),
+    }
+}
+
+/// A file with its raster, its header or both damaged.
+fn damaged_file(random: &mut Random) -> Vec<u8> {
+    let (width, height) = (1 + random.below(40), 1 + random.below(40));
+    let image = random_image(width, height, random);
+    let mut file = reference::file_of(&image);
+    let raster = file.split_off(file.len() - width.div_ceil(8) * height);
+    let header = match random.below(8) {
+        0 | 1 => damaged_header(file, random),
+        2 => strange_header(random, width, height).into_bytes(),
+        3 => format!("P4\n{} {height}\n", random.choose(&[0, 257, 999])).into_bytes(),
+        4 => format!("P4\n{width} {}\n", random.choose(&[0, 257, 300])).into_bytes(),
+        _ => file,
+    };
+    [header, damaged_raster(raster, width, random)].concat()
+}
+
+fn damaged_header(mut header: Vec<u8>, random: &mut Random) -> Vec<u8> {
+    let place = random.below(header.len());
+    match random.below(4) {
+        0 => header[place] = random.byte(),
+        1 => header.insert(place, *random.choose(b"0 \n#4")),
+        2 => drop(header.remove(place)),
+        _ => header.truncate(place),
+    }
+    header
+}
+
+fn damaged_raster(mut raster: Vec<u8>, width: usize, random: &mut Random) -> Vec<u8> {
+    if random.percent(40) {
+        set_unused(random, &mut raster, width);
+    }
+    match random.below(6) {
+        0 => raster.truncate(random.below(raster.len())),
+        1 => raster.push(random.byte()),
+        _ => {}
+    }
+    raster
+}
+
+/// Sets a bit past the width in one or two rows, if rows have such bits.
+fn set_unused(random: &mut Random, raster: &mut [u8], width: usize) {
+    let row_bytes = width.div_ceil(8);
+    let unused = 8 * row_bytes - width;
+    for _ in 0..1 + random.below(2) {
+        let row = random.below(raster.len() / row_bytes);
+        if unused > 0 {
+            raster[(row + 1) * row_bytes - 1] |= 1 << random.below(unused);
+        }
+    }
+}
+
+#[test]
+fn damaged_files() {
+    let mut random = Random::new(21);
+    let mut tally = Tally::default();
+    for _ in 0..40_000 {
+        let file = damaged_file(&mut random);
+        let length = *random.choose(&[0, 20, 400, 1600, 1600, 1600]);
+        let mut area = random.bytes(length);
+        if let Ok((width, height)) = tally.note(read(&file, &mut area)) {
+            let mut out = random.bytes(file.len());
+            let pixels = &area[..width * height];
+            assert_eq!(write(width, height, pixels, &mut out), Ok(file.len()));
+            assert_eq!(out, file, "an accepted file returns byte for byte");
+        }
+    }
+    tally.report("damaged image files");
+    let one_place = [Reason::Header, Reason::Size, Reason::Raster, Reason::Short];
+    assert_reached(&tally, &Reason::ALL[8..13], &one_place);
+}
+
+/// Damages pixels or size, once or twice.
+fn damage(image: &mut Image, random: &mut Random) {
+    let sides = [0, 257, 65_536, 1 << 32, usize::MAX];
+    for _ in 0..1 + random.below(2) {
+        let place = random.below(image.pixels.len() + 1);
+        match random.below(8) {
+            0 | 1 => image
+                .pixels
+                .iter_mut()
+                .skip(place)
+                .take(1)
+                .for_each(|p| *p = 2),
+            2 => image.pixels[place..].fill(255),
+            3 => image.pixels.truncate(place),
+            4 => image.pixels.push(random.byte()),
+            5 => image.width = *random.choose(&sides),
+            6 => image.height = *random.choose(&sides),
+            _ => std::mem::swap(&mut image.width, &mut image.height),
+        }
+    }
+}
+
+#[test]
+fn damaged_pixels() {
+    let mut random = Random::new(22);
+    let mut tally = Tally::default();
+    for case in 0..40_000 {
+        let (width, height) = (1 + random.below(40), 1 + random.below(40));
+        let mut image = random_image(width, height, &mut random);
+        if case % 4 != 0 {
+            damage(&mut image, &mut random);
+        }
+        let Image {
+            width,
+            height,
+            pixels,
+        } = image;
+        let length = random.below(400);
+        let mut out = random.bytes(length);
+        let _ = tally.note(write(width, height, &pixels, &mut out));
+    }
+    tally.report("damaged pixels");
+    let one_place = [Reason::Size, Reason::Raster, Reason::Short];
+    assert_reached(&tally, &Reason::ALL[9..13], &one_place);
+}
+
+#[test]
+fn random_bytes() {
+    let mut random = Random::new(23);
+    let mut tally = Tally::default();
+    let alphabet = b"P4\n 0123456789\x00\x80\xFF#1";
+    for _ in 0..40_000 {
+        let kept = random.below(6);
+        let more = random.below(12);
+        let mut file = b"P4\n1 1\n"[..kept].to_vec();
+        file.extend((0..more).map(|_| *random.choose(alphabet)));
+        let mut area = random.bytes(70);
+        let _ = tally.note(read(&file, &mut area));
+    }
+    tally.report("random bytes as image files");
+}

@@ -1,0 +1,250 @@
+//! Passes: the library beside the reference by definition, pass by pass, over sizes, kinds of images and tables.
+
+mod common;
+
+use common::{report, State};
+use mask_cleaner::cases::{cross, median, named_tables, random_image, random_table, ring};
+use mask_cleaner::cases::{Kind, Random};
+use mask_cleaner::fast::Filter;
+use mask_cleaner::library;
+use mask_cleaner::model::{Answer, Call};
+use mask_cleaner::record::{JobRecord, Progress, TableRecord};
+use mask_cleaner::reference::image::{file_of, Image};
+
+/// What a test ran.
+#[derive(Default)]
+struct Counts {
+    jobs: usize,
+    passes: usize,
+    changing: usize,
+}
+
+impl Counts {
+    fn report(&self, title: &str) {
+        report(&format!(
+            "{title}: {} jobs, {} passes, {} of them changing",
+            self.jobs, self.passes, self.changing
+        ));
+    }
+}
+
+/// Loads an image and makes passes until it is stable, at most so many; library and reference agree after each.
+fn compare(
+    image: &Image,
+    table: &TableRecord,
+    most: usize,
+    random: &mut Random,
+    counts: &mut Counts,
+) {
+    let pixels = image.pixels.len();
+    let (first, second) = (pixels + random.below(9), pixels + random.below(9));
+    let mut state = State::empty(random.bytes(first), random.bytes(second));
+    let load = Call::Load {
+        table: *table,
+        file: file_of(image),
+    };
+    assert_eq!(state.apply_both(&load, &mut []), Ok(Answer::Loaded));
+    counts.jobs += 1;
+    for _ in 0..most {
+        let answer = state.apply_both(&Call::Pass, &mut []);
+        counts.passes += 1;
+        if answer == Ok(Answer::Progress(Progress::Stable)) {
+            return;
+        }
+        assert_eq!(answer, Ok(Answer::Progress(Progress::Changed)));
+        counts.changing += 1;
+    }
+}
+
+fn some_table(random: &mut Random) -> TableRecord {
+    match random.below(8) {
+        0 => ring(),
+        1 => cross(),
+        2 => median(),
+        3 => random_table(random, 1),
+        4 => random_table(random, 4),
+        _ => random_table(random, 64),
+    }
+}
+
+#[test]
+fn all_small_sizes() {
+    let mut random = Random::new(40);
+    let mut counts = Counts::default();
+    for width in 1..=17 {
+        for height in 1..=17 {
+            for (_, table) in named_tables() {
+                let image = random_image(width, height, &mut random);
+                compare(&image, &table, 400, &mut random, &mut counts);
+            }
+            for _ in 0..16 {
+                let table = some_table(&mut random);
+                let image = random_image(width, height, &mut random);
+                compare(&image, &table, 400, &mut random, &mut counts);
+            }
+        }
+    }
+    counts.report("all sizes from 1 to 17");
+}
+
+#[test]
+fn all_kinds() {
+    let mut random = Random::new(41);
+    let mut counts = Counts::default();
+    for kind in Kind::ALL {
+        for (_, table) in named_tables() {
+            for (width, height) in [(23, 19), (40, 9), (31, 33)] {
+                let image = kind.image(width, height, &mut random);
+                compare(&image, &table, 400, &mut random, &mut counts);
+            }
+        }
+        for _ in 0..150 {
+            let table = random_table(&mut random, 64);
+            let (width, height) = (1 + random.below(32), 1 + random.below(32));
+            let image = kind.image(width, height, &mut random);
+            compare(&image, &table, 400, &mut random, &mut counts);
+        }
+    }
+    counts.report("all kinds of images");
+}
+
+#[test]
+fn large_sizes() {
+    let mut random = Random::new(42);
+    let mut counts = Counts::default();
+    let sides = [1, 2, 3, 5, 63, 64, 65, 127, 128, 129, 255, 256];
+    for width in sides {
+        for height in sides {
+            let table = some_table(&mut random);
+            let image = random_image(width, height, &mut random);
+            compare(&image, &table, 4, &mut random, &mut counts);
+        }
+    }
+    for (_, table) in named_tables() {
+        for kind in Kind::ALL {
+            let image = kind.image(256, 256, &mut random);
+            compare(&image, &table, 2, &mut random, &mut counts);
+        }
+    }
+    counts.report("sizes around 64, 128 and 256");
+}
+
+/// Every image of a size.
+fn every_image(width: usize, height: usize) -> impl Iterator<Item = Image> {
+    let pixel = move |bits: usize, x, y| (bits >> (y * width + x) & 1) as u8;
+    (0..1usize << (width * height))
+        .map(move |bits| Image::from_fn(width, height, |x, y| pixel(bits, x, y)))
+}
+
+#[test]
+fn every_image_of_a_few_pixels() {
+    let mut random = Random::new(43);
+    let mut counts = Counts::default();
+    let mut tables: Vec<TableRecord> = named_tables().iter().map(|(_, t)| *t).collect();
+    tables.extend((0..5).map(|_| random_table(&mut random, 8)));
+    for (width, height) in [
+        (1, 1),
+        (2, 1),
+        (1, 3),
+        (2, 2),
+        (3, 2),
+        (3, 3),
+        (2, 4),
+        (8, 1),
+    ] {
+        for image in every_image(width, height) {
+            for table in &tables {
+                compare(&image, table, 20, &mut random, &mut counts);
+            }
+        }
+    }
+    for image in every_image(5, 3) {
+        compare(&image, &cross(), 20, &mut random, &mut counts);
+    }
+    counts.report("every image of a few pixels");
+}
+
+/// A run of the library beside passes by the quick version.
+fn compare_run(image: &Image, table: &TableRecord, random: &mut Random) -> usize {
+    let Image { width, height, .. } = *image;
+    let pixels = width * height;
+    let mut record = JobRecord::EMPTY;
+    let (mut first, mut second) = (random.bytes(pixels), random.bytes(pixels));
+    library::load(&mut record, table, &file_of(image), &mut first, &second).expect("accepted");
+    let answer = library::run(&mut record, &mut first, &mut second);
+    assert_eq!(answer, Ok(Progress::Stable));
+    let (mut clean, mut other) = (image.pixels.clone(), vec![0; pixels]);
+    let totals = Filter::new(table, width, height).run(&mut clean, &mut other);
+    assert_eq!(totals, (record.passes, record.added, record.removed));
+    assert_eq!(
+        clean, first,
+        "both areas hold the stable image after a quiet pass"
+    );
+    assert_eq!(clean, second);
+    record.passes
+}
+
+#[test]
+fn runs_on_large_images() {
+    let mut random = Random::new(44);
+    let (mut jobs, mut passes) = (0, 0);
+    for case in 0..240 {
+        let (width, height) = match case % 3 {
+            0 => (256, 256),
+            1 => (200 + random.below(57), 1 + random.below(256)),
+            _ => (1 + random.below(256), 200 + random.below(57)),
+        };
+        let table = some_table(&mut random);
+        let image = random_image(width, height, &mut random);
+        passes += compare_run(&image, &table, &mut random);
+        jobs += 1;
+    }
+    report(&format!(
+        "runs on large images: {jobs} jobs, {passes} passes"
+    ));
+}
+
+#[test]
+fn nothing_outside_the_areas() {
+    const GUARD: usize = 64;
+    let mut random = Random::new(45);
+    let cases = 300;
+    for _ in 0..cases {
+        let (width, height) = (1 + random.below(40), 1 + random.below(40));
+        let pixels = width * height;
+        let file = file_of(&random_image(width, height, &mut random));
+        let table = some_table(&mut random);
+        let mut first = vec![0xA5; pixels + 2 * GUARD];
+        let mut second = vec![0x5A; pixels + 2 * GUARD];
+        let mut out = vec![0xC3; file.len() + 2 * GUARD];
+        let inner = GUARD..GUARD + pixels;
+        let mut record = JobRecord::EMPTY;
+        let (one, two) = (&mut first[inner.clone()], &mut second[inner]);
+        library::load(&mut record, &table, &file, one, two).expect("accepted");
+        library::run(&mut record, one, two).expect("accepted");
+        let output = &mut out[GUARD..GUARD + file.len()];
+        library::collect(&mut record, one, two, output).expect("accepted");
+        for (bytes, guard) in [(&first, 0xA5), (&second, 0x5A), (&out, 0xC3)] {
+            let end = bytes.len() - GUARD;
+            assert!(bytes[..GUARD]
+                .iter()
+                .chain(&bytes[end..])
+                .all(|b| *b == guard));
+        }
+    }
+    report(&format!("bytes around areas and output: {cases} cases"));
+}
+
+#[test]
+fn runs_in_512_kilobytes_of_stack() {
+    let run = || {
+        let mut random = Random::new(46);
+        let image = Kind::Worn.image(256, 256, &mut random);
+        compare_run(&image, &median(), &mut random)
+    };
+    let thread = std::thread::Builder::new()
+        .stack_size(512 * 1024)
+        .spawn(run);
+    let passes = thread.expect("a thread").join().expect("a run");
+    report(&format!("a run in 512 KB of stack: {passes} passes"));
+}

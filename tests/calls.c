@@ -1,0 +1,334 @@
+/* Calls every function of the library with values that tell its fields apart, and compares answers and lent memory, the
+   untouched bytes too. Prints nothing and exits 0 where all is as it should be. */
+#include <stdio.h>
+#include <string.h>
+
+#include "mask_cleaner.h"
+
+#define RING 469440u
+#define RING_PERSISTENT 405504u
+#define FILL 0xA5
+
+static int failures = 0;
+
+#define EXPECT(x)                                             \
+    do {                                                      \
+        if (!(x)) {                                           \
+            fprintf(stderr, "line %d: %s\n", __LINE__, #x);   \
+            failures++;                                       \
+        }                                                     \
+    } while (0)
+
+#define REFUSED(answer, n, p) ((answer).number == (n) && (answer).place == (p))
+#define ACCEPTED(answer) REFUSED(answer, 0, 0)
+
+static const uint8_t ring_file[] = {0x01, 0xC0, 0xD3, 0x1C, 0x80, 0xE0, 0x18};
+static const uint8_t dot_file[] = {'P', '4', '\n', '5', ' ', '5', '\n', 0x00, 0x00, 0x20, 0x00, 0x00};
+static const uint8_t blank_file[] = {'P', '4', '\n', '5', ' ', '5', '\n', 0x00, 0x00, 0x00, 0x00, 0x00};
+
+static mask_table ring(void) {
+    mask_table t = {0};
+    t.count = 1;
+    t.elements[0] = RING;
+    t.persistent = RING_PERSISTENT;
+    return t;
+}
+
+/* A record by hand: 5 x 3, stable, an odd number of passes, all counts different. */
+static mask_job by_hand(void) {
+    mask_job j = {0};
+    j.stage = MASK_STAGE_STABLE;
+    j.width = 5;
+    j.height = 3;
+    j.passes = 7;
+    j.added = 2;
+    j.removed = 11;
+    j.table = ring();
+    return j;
+}
+
+static int all(const uint8_t *bytes, size_t length, uint8_t value) {
+    for (size_t i = 0; i < length; i++) {
+        if (bytes[i] != value) {
+            return 0;
+        }
+    }
+    return 1;
+}
+
+static int same_table(mask_table a, mask_table b) {
+    return a.count == b.count && a.persistent == b.persistent && memcmp(a.elements, b.elements, sizeof a.elements) == 0;
+}
+
+static int same_job(mask_job a, mask_job b) {
+    return a.stage == b.stage && a.width == b.width && a.height == b.height && a.passes == b.passes && a.added == b.added
+        && a.removed == b.removed && same_table(a.table, b.table);
+}
+
+static void layout(void) {
+    EXPECT(sizeof(size_t) == 8);
+    EXPECT(sizeof(mask_table) == 272 && offsetof(mask_table, elements) == 8 && offsetof(mask_table, persistent) == 264);
+    EXPECT(sizeof(mask_job) == 320 && offsetof(mask_job, width) == 8 && offsetof(mask_job, removed) == 40);
+    EXPECT(offsetof(mask_job, table) == 48);
+    EXPECT(sizeof(mask_checked) == 16 && sizeof(mask_table_answer) == 288 && sizeof(mask_image_size) == 32);
+    EXPECT(sizeof(mask_file_length) == 24 && sizeof(mask_progress) == 24 && sizeof(mask_part) == 32);
+    EXPECT(sizeof(mask_figures_answer) == 32);
+}
+
+/* Each place of the array is seen by value. */
+static void table_check(void) {
+    EXPECT(ACCEPTED(mask_table_check(ring())));
+    for (size_t k = 1; k < MASK_MAX_ELEMENTS; k++) {
+        mask_table t = ring();
+        t.elements[k] = 1;
+        EXPECT(REFUSED(mask_table_check(t), MASK_ELEMENT_RANGE, k + 1));
+    }
+    mask_table t = ring();
+    t.count = 65;
+    EXPECT(REFUSED(mask_table_check(t), MASK_ELEMENT_COUNT, 0));
+    t = ring();
+    t.persistent = 0;
+    EXPECT(REFUSED(mask_table_check(t), MASK_PERSISTENT_RANGE, 2));
+    t.persistent = 4096;
+    EXPECT(REFUSED(mask_table_check(t), MASK_NOT_PERSISTENT, 1));
+    t = ring();
+    t.count = 2;
+    t.elements[0] = 2048;
+    t.elements[1] = 8192;
+    EXPECT(REFUSED(mask_table_check(t), MASK_ELEMENTS_DISJOINT, 2));
+}
+
+static void table_files(void) {
+    mask_table zero = {0};
+    mask_table_answer r = mask_table_read(ring_file, sizeof ring_file);
+    EXPECT(ACCEPTED(r) && same_table(r.table, ring()));
+    r = mask_table_read(ring_file, 0);
+    EXPECT(REFUSED(r, MASK_NUMBER_ENDS, 0) && same_table(r.table, zero));
+    r = mask_table_read(ring_file, sizeof ring_file - 1);
+    EXPECT(REFUSED(r, MASK_NUMBER_ENDS, 2) && same_table(r.table, zero));
+
+    uint8_t out[16];
+    memset(out, FILL, sizeof out);
+    mask_file_length w = mask_table_write(ring(), out, 6);
+    EXPECT(REFUSED(w, MASK_AREA_SHORT, 0) && w.length == 0 && all(out, sizeof out, FILL));
+    w = mask_table_write(zero, out, sizeof out);
+    EXPECT(REFUSED(w, MASK_ELEMENT_COUNT, 0) && w.length == 0 && all(out, sizeof out, FILL));
+    w = mask_table_write(ring(), out, sizeof out);
+    EXPECT(ACCEPTED(w) && w.length == sizeof ring_file && memcmp(out, ring_file, sizeof ring_file) == 0);
+    EXPECT(all(out + sizeof ring_file, sizeof out - sizeof ring_file, FILL));
+}
+
+static void image_files(void) {
+    /* 10 x 2: rows of two bytes with six unused bits */
+    uint8_t file[] = {'P', '4', '\n', '1', '0', ' ', '2', '\n', 0x80, 0x40, 0x01, 0x80};
+    uint8_t area[24];
+    uint8_t out[16];
+    memset(area, FILL, sizeof area);
+    memset(out, FILL, sizeof out);
+    mask_image_size r = mask_image_read(file, sizeof file, area, 19);
+    EXPECT(REFUSED(r, MASK_AREA_SHORT, 0) && r.width == 0 && r.height == 0 && all(area, sizeof area, FILL));
+    file[11] = 0x81;
+    r = mask_image_read(file, sizeof file, area, sizeof area);
+    EXPECT(REFUSED(r, MASK_PIXEL_VALUE, 1) && r.width == 0 && r.height == 0 && all(area, sizeof area, FILL));
+    file[11] = 0x80;
+    r = mask_image_read(file, sizeof file, area, sizeof area);
+    EXPECT(ACCEPTED(r) && r.width == 10 && r.height == 2);
+    EXPECT(area[0] == 1 && area[9] == 1 && area[17] == 1 && area[18] == 1 && all(area + 1, 8, 0) && all(area + 10, 7, 0));
+    EXPECT(area[19] == 0 && all(area + 20, 4, FILL));
+
+    mask_file_length w = mask_image_write(10, 2, area, 20, out, 11);
+    EXPECT(REFUSED(w, MASK_AREA_SHORT, 0) && w.length == 0 && all(out, sizeof out, FILL));
+    w = mask_image_write(10, 2, area, 21, out, sizeof out);
+    EXPECT(REFUSED(w, MASK_RASTER_LENGTH, 0) && w.length == 0 && all(out, sizeof out, FILL));
+    w = mask_image_write(257, 2, area, 20, out, sizeof out);
+    EXPECT(REFUSED(w, MASK_SIZE_RANGE, 0) && w.length == 0);
+    w = mask_image_write(10, 2, area, 20, out, sizeof out);
+    EXPECT(ACCEPTED(w) && w.length == sizeof file && memcmp(out, file, sizeof file) == 0 && all(out + 12, 4, FILL));
+    area[15] = 2;
+    w = mask_image_write(10, 2, area, 20, out, sizeof out);
+    EXPECT(REFUSED(w, MASK_PIXEL_VALUE, 1) && w.length == 0);
+}
+
+static void preview(void) {
+    uint8_t pixels[12] = {0, 0, 1, 0, 0, 1, 1, 1, 0, 0, 1, 0}; /* 4 x 3 */
+    uint8_t area[16];
+    memset(area, FILL, sizeof area);
+    EXPECT(REFUSED(mask_preview(4, 3, pixels, 12, area, 11), MASK_AREA_SHORT, 0) && all(area, sizeof area, FILL));
+    EXPECT(REFUSED(mask_preview(3, 3, pixels, 12, area, 16), MASK_RASTER_LENGTH, 0) && all(area, sizeof area, FILL));
+    EXPECT(ACCEPTED(mask_preview(4, 3, pixels, 12, area, sizeof area)));
+    for (size_t i = 0; i < 12; i++) {
+        /* the median by counting, with offsets cut to the image */
+        size_t row = i / 4, col = i % 4, black = 0;
+        for (size_t dy = 0; dy < 3; dy++) {
+            for (size_t dx = 0; dx < 3; dx++) {
+                size_t y = row + dy < 1 ? 0 : row + dy - 1 > 2 ? 2 : row + dy - 1;
+                size_t x = col + dx < 1 ? 0 : col + dx - 1 > 3 ? 3 : col + dx - 1;
+                black += pixels[y * 4 + x];
+            }
+        }
+        EXPECT(area[i] == (black >= 5));
+    }
+    EXPECT(all(area + 12, 4, FILL));
+    pixels[9] = 2;
+    EXPECT(REFUSED(mask_preview(4, 3, pixels, 12, area, sizeof area), MASK_PIXEL_VALUE, 2));
+}
+
+/* A field of an empty record that is not zero is seen wherever it stands, by value and behind the pointer. */
+static void fields(void) {
+    uint8_t first[32] = {0};
+    uint8_t second[32] = {0};
+    mask_job j = {0};
+    for (int field = 0; field < 8 + MASK_MAX_ELEMENTS; field++) {
+        memset(&j, 0, sizeof j);
+        switch (field) {
+        case 0: j.stage = 3; break;
+        case 1: j.width = 1; break;
+        case 2: j.height = 1; break;
+        case 3: j.passes = 1; break;
+        case 4: j.added = 1; break;
+        case 5: j.removed = 1; break;
+        case 6: j.table.count = 1; break;
+        case 7: j.table.persistent = 1; break;
+        default: j.table.elements[field - 8] = 1; break;
+        }
+        mask_job before = j;
+        EXPECT(REFUSED(mask_view(j, first, 32, second, 32), MASK_UNSOUND, 0));
+        EXPECT(REFUSED(mask_figures(j, first, 32, second, 32), MASK_UNSOUND, 0));
+        EXPECT(REFUSED(mask_pass(&j, first, 32, second, 32), MASK_UNSOUND, 0) && same_job(j, before));
+        EXPECT(REFUSED(mask_load(&j, ring(), dot_file, sizeof dot_file, first, 32, second, 32), MASK_UNSOUND, 0));
+        EXPECT(same_job(j, before));
+    }
+}
+
+static void empty(void) {
+    uint8_t first[32];
+    uint8_t second[32];
+    uint8_t out[16];
+    mask_job j = {0};
+    mask_job zero = {0};
+    memset(first, FILL, sizeof first);
+    memset(second, FILL, sizeof second);
+    memset(out, FILL, sizeof out);
+    mask_part v = mask_view(j, first, 32, second, 32);
+    EXPECT(REFUSED(v, MASK_NOTHING_LOADED, 0) && v.area == 0 && v.length == 0);
+    mask_figures_answer f = mask_figures(j, first, 32, second, 32);
+    EXPECT(REFUSED(f, MASK_NOTHING_LOADED, 0) && f.balance == 0 && f.cover == 0);
+    mask_progress p = mask_pass(&j, first, 32, second, 32);
+    EXPECT(REFUSED(p, MASK_NOTHING_LOADED, 0) && p.stable == 0);
+    p = mask_run(&j, first, 32, second, 32);
+    EXPECT(REFUSED(p, MASK_NOTHING_LOADED, 0) && p.stable == 0);
+    mask_file_length c = mask_collect(&j, first, 32, second, 32, out, 16);
+    EXPECT(REFUSED(c, MASK_NOTHING_LOADED, 0) && c.length == 0);
+    mask_table bad = ring();
+    bad.elements[5] = 1;
+    EXPECT(REFUSED(mask_load(&j, bad, dot_file, sizeof dot_file, first, 32, second, 32), MASK_ELEMENT_RANGE, 6));
+    EXPECT(REFUSED(mask_load(&j, ring(), dot_file, 11, first, 32, second, 32), MASK_RASTER_LENGTH, 0));
+    EXPECT(REFUSED(mask_load(&j, ring(), dot_file, 12, first, 24, second, 32), MASK_AREA_SHORT, 0));
+    EXPECT(REFUSED(mask_load(&j, ring(), dot_file, 12, first, 32, second, 24), MASK_AREA_SHORT, 0));
+    EXPECT(same_job(j, zero) && all(first, 32, FILL) && all(second, 32, FILL) && all(out, 16, FILL));
+}
+
+/* View and figures of a record by hand, by value. */
+static void by_value(void) {
+    uint8_t first[16];
+    uint8_t second[16];
+    memset(first, 1, sizeof first);
+    memset(second, 0, sizeof second);
+    second[0] = second[3] = second[8] = second[14] = 1;
+    mask_part v = mask_view(by_hand(), first, 16, second, 15);
+    EXPECT(ACCEPTED(v) && v.area == 2 && v.length == 15);
+    mask_figures_answer f = mask_figures(by_hand(), first, 16, second, 15);
+    EXPECT(ACCEPTED(f) && f.balance == -9 && f.cover == 266); /* 4 of 15 */
+    mask_job j = by_hand();
+    j.passes = 8;
+    v = mask_view(j, first, 15, second, 16);
+    EXPECT(ACCEPTED(v) && v.area == 1 && v.length == 15);
+    f = mask_figures(j, first, 15, second, 16);
+    EXPECT(ACCEPTED(f) && f.balance == -9 && f.cover == 1000);
+    v = mask_view(j, first, 14, second, 16);
+    EXPECT(REFUSED(v, MASK_UNSOUND, 0) && v.area == 0 && v.length == 0);
+    f = mask_figures(j, first, 15, second, 14);
+    EXPECT(REFUSED(f, MASK_UNSOUND, 0) && f.balance == 0 && f.cover == 0);
+    first[7] = 2;
+    EXPECT(REFUSED(mask_view(j, first, 15, second, 16), MASK_UNSOUND, 0));
+    j.table.elements[63] = 1;
+    EXPECT(REFUSED(mask_view(j, first, 15, second, 16), MASK_UNSOUND, 0));
+}
+
+/* The ring on 5 x 5 with one black pixel: one pass removes it. */
+static void whole_job(int by_run) {
+    uint8_t first[32];
+    uint8_t second[32];
+    uint8_t out[16];
+    mask_job j = {0};
+    mask_job zero = {0};
+    memset(first, FILL, sizeof first);
+    memset(second, FILL, sizeof second);
+    memset(out, FILL, sizeof out);
+    EXPECT(ACCEPTED(mask_load(&j, ring(), dot_file, sizeof dot_file, first, 30, second, 31)));
+    EXPECT(j.stage == 1 && j.width == 5 && j.height == 5 && j.passes == 0 && j.added == 0 && j.removed == 0);
+    EXPECT(same_table(j.table, ring()) && all(second, 32, FILL) && all(first + 25, 7, FILL));
+    EXPECT(all(first, 12, 0) && first[12] == 1 && all(first + 13, 12, 0));
+    mask_part v = mask_view(j, first, 30, second, 31);
+    EXPECT(ACCEPTED(v) && v.area == 1 && v.length == 25);
+    EXPECT(REFUSED(mask_load(&j, ring(), dot_file, sizeof dot_file, first, 30, second, 31), MASK_NOT_COLLECTED, 0));
+    mask_file_length c = mask_collect(&j, first, 30, second, 31, out, 16);
+    EXPECT(REFUSED(c, MASK_NOT_STABLE, 0) && c.length == 0 && j.stage == 1);
+    if (by_run) {
+        mask_progress p = mask_run(&j, first, 30, second, 31);
+        EXPECT(ACCEPTED(p) && p.stable == 1);
+    } else {
+        mask_progress p = mask_pass(&j, first, 30, second, 31);
+        EXPECT(ACCEPTED(p) && p.stable == 0 && j.stage == 1 && j.passes == 1 && j.added == 0 && j.removed == 1);
+        EXPECT(all(second, 25, 0) && first[12] == 1);
+        p = mask_pass(&j, first, 30, second, 31);
+        EXPECT(ACCEPTED(p) && p.stable == 1);
+        p = mask_pass(&j, first, 30, second, 31);
+        EXPECT(ACCEPTED(p) && p.stable == 1);
+    }
+    EXPECT(j.stage == 2 && j.width == 5 && j.height == 5 && j.passes == 1 && j.added == 0 && j.removed == 1);
+    EXPECT(same_table(j.table, ring()) && all(first, 25, 0) && all(first + 25, 7, FILL));
+    EXPECT(all(second, 25, 0) && all(second + 25, 7, FILL));
+    v = mask_view(j, first, 30, second, 31);
+    EXPECT(ACCEPTED(v) && v.area == 2 && v.length == 25);
+    mask_figures_answer f = mask_figures(j, first, 30, second, 31);
+    EXPECT(ACCEPTED(f) && f.balance == -1 && f.cover == 0);
+    mask_job before = j;
+    c = mask_collect(&j, first, 30, second, 31, out, 11);
+    EXPECT(REFUSED(c, MASK_AREA_SHORT, 0) && c.length == 0 && same_job(j, before) && all(out, 16, FILL));
+    c = mask_collect(&j, first, 30, second, 31, out, 16);
+    EXPECT(ACCEPTED(c) && c.length == 12 && memcmp(out, blank_file, 12) == 0 && all(out + 12, 4, FILL));
+    EXPECT(same_job(j, zero) && all(second, 25, 0) && all(second + 25, 7, FILL));
+}
+
+/* A record by hand whose next pass would take its counts above the pixels: refused, and nothing is written. */
+static void pass_clause(void) {
+    uint8_t first[32];
+    uint8_t second[32];
+    mask_job j = {0};
+    memset(first, FILL, sizeof first);
+    memset(second, FILL, sizeof second);
+    EXPECT(ACCEPTED(mask_load(&j, ring(), dot_file, sizeof dot_file, first, 32, second, 32)));
+    j.added = 20;
+    j.removed = 5;
+    mask_job before = j;
+    mask_progress p = mask_pass(&j, first, 32, second, 32);
+    EXPECT(REFUSED(p, MASK_UNSOUND, 0) && p.stable == 0 && same_job(j, before) && all(second, 32, FILL));
+    p = mask_run(&j, first, 32, second, 32);
+    EXPECT(REFUSED(p, MASK_UNSOUND, 0) && p.stable == 0 && same_job(j, before) && all(second, 32, FILL));
+}
+
+int main(void) {
+    layout();
+    table_check();
+    table_files();
+    image_files();
+    preview();
+    fields();
+    empty();
+    by_value();
+    whole_job(0);
+    whole_job(1);
+    pass_clause();
+    return failures != 0;
+}
