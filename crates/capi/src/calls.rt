@@ -71,7 +71,12 @@ pub(crate) fn run(job: Job, first: &mut [u8], second: &mut [u8]) -> PassedBy
     }
 }
 
-pub(crate) fn collect(job: Job, first: &[u8], second: &[u8], out: &mut [u8]) -> CollectedBy
+pub(crate) fn collect<'a>(
+    job: Job,
+    first: &'a [u8],
+    second: &'a [u8],
+    out: &mut [u8],
+) -> CollectedBy
     ensures { λ r. ⌜ (r ≡ collectedBy (collectWritten (length (now (out .entry))) (at job (now (first .entry)) (now (second .entry))))
         (collectState (length (now (out .entry))) (at job (now (first .entry)) (now (second .entry)))))
         × (now (out .exit) ≡ collectOutput (now (out .entry)) (at job (now (first .entry)) (now (second .entry)))) ⌝ }

@@ -179,7 +179,7 @@ pub extern "C" fn mask_run(job: &mut Job, first: &mut [u8], second: &mut [u8]) -
 
 // The part is named, not lent: C has both areas.
 #[no_mangle]
-pub extern "C" fn mask_view(job: Job, first: &[u8], second: &[u8]) -> Part
+pub extern "C" fn mask_view<'a>(job: Job, first: &'a [u8], second: &'a [u8]) -> Part
     ensures { λ r. ⌜ (r ≡ partOf (at job (now (first .entry)) (now (second .entry))))
         × Shows r (at job (now (first .entry)) (now (second .entry))) ⌝ }
 {
@@ -208,17 +208,17 @@ fn holder(passes: usize) -> u32
 }
 
 #[no_mangle]
-pub extern "C" fn mask_figures(job: Job, first: &[u8], second: &[u8]) -> FiguresAnswer
+pub extern "C" fn mask_figures<'a>(job: Job, first: &'a [u8], second: &'a [u8]) -> FiguresAnswer
     ensures { λ r. ⌜ r ≡ ofFigured (figuresOf (at job (now (first .entry)) (now (second .entry)))) ⌝ }
 {
     answers::of_figured(job::figures(job, first, second))
 }
 
 #[no_mangle]
-pub extern "C" fn mask_collect(
+pub extern "C" fn mask_collect<'a>(
     job: &mut Job,
-    first: &[u8],
-    second: &[u8],
+    first: &'a [u8],
+    second: &'a [u8],
     out: &mut [u8],
 ) -> FileLength
     ensures { λ r. ⌜ (r ≡ ofWritten (collectWritten (length (now (out .entry))) (at (now (job .entry)) (now (first .entry)) (now (second .entry)))))

@@ -53,7 +53,7 @@ fn run(loaded: Job, first: &mut [u8], second: &mut [u8]) {
     }
 }
 
-fn collect(stable: Job, first: &[u8], second: &[u8]) {
+fn collect<'a>(stable: Job, first: &'a [u8], second: &'a [u8]) {
     let mut out = [0u8; SHEET_ROOM];
     let collected = job::collect_core(stable, first, second, &mut out);
     let answer = collected.answer;

@@ -1,9 +1,11 @@
 -- The last three conditions of 14, where the others do not hold.
+--     pixels-seen                           a test of the present pixels, by the bytes that the code looked at
 --     stained, many-passes, counts-left     a present pixel above 1; too many passes; else the counts decide
 -- Assumes nothing.
-use mathlib.Core.Bool.{true, false, _||_}
-use mathlib.Core.Path.{_≡_, sym, _∙_}
-use Prim.Native.Nat.{_+_, _≤_, _<_}
+use mathlib.Core.Bool.{Bool, true, false, _||_}
+use mathlib.Core.List.{List}
+use mathlib.Core.Path.{_≡_, sym, ap, _∙_}
+use Prim.Native.Nat.{ℕ, _+_, _≤_, _<_}
 use borrow.Author.Tests.{lt-ltb, le-ltb}
 use lib.Dec.{ltb}
 use lib.ListN.{length}
@@ -12,6 +14,9 @@ use Rattle.image.specs.Size.{badSize}
 use Rattle.seq.specs.Lists.{any}
 use Rattle.table.specs.Record.{recordVerdict}
 use Rattle.verdict.specs.declared.Verdict.the-variants.{Accepted}
+
+pub pixels-seen : {px qx : List ℕ} {b : Bool} → px ≡ qx → b ≡ any (ltb 1) px → any (ltb 1) qx ≡ b
+pixels-seen e p = sym (p ∙ ap (any (ltb 1)) e)
 
 module _ (s : State) (sized : badSize (s .job .width) (s .job .height) ≡ false) (table : recordVerdict (s .job .table) ≡ Accepted)
     (first : pixels (s .job) ≤ length (s .first)) (second : pixels (s .job) ≤ length (s .second)) where

@@ -1,10 +1,11 @@
 -- View and figures by the code's tests.
 --     view-refused, view-shown           an empty part, or the present image
 --     figures-refused, figures-shown     the refusal, or balance and cover
+--     black-of                           the black pixels of equal images
 --     few-black                          the black pixels are at most all
 -- Assumes nothing.
 use mathlib.Core.List.{List, []}
-use mathlib.Core.Path.{_≡_}
+use mathlib.Core.Path.{_≡_, ap, _∙_}
 use Prim.Native.Nat.{ℕ, _≤_}
 use native.Mathlib.Omega.{arith}
 use lib.Dec.{eqb}
@@ -38,6 +39,9 @@ module _ (s : State) where
       → m ≡ cover n (pixels (s .job)) → figured.Figures b m ≡ figuresOf s
   unfolding figuresOf
   figures-shown e q b c = rw (e, b, c, q)
+
+pub black-of : {px qx : List ℕ} {n : ℕ} → px ≡ qx → n ≡ black px → n ≡ black qx
+black-of e p = p ∙ ap black e
 
 black-few : (px : List ℕ) → black px ≤ length px
 unfolding black

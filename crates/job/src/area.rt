@@ -1,4 +1,5 @@
 // The two work areas: which of them holds the image (01: the first when passes is even, else the second).
+// A call that looks at the image has both areas lent for one time, since either may hold it.
 use history::Job;
 ghost use mathlib.Core.Bool.{cond};
 ghost use mathlib.Core.Path.{_≡_};

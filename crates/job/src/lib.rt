@@ -9,15 +9,14 @@ use table::Table;
 use verdict::Verdict;
 use verdict::Written;
 ghost use mathlib.Core.Path.{_≡_};
-ghost use Prim.Native.Nat.{_≤_, min};
+ghost use Prim.Native.Nat.{min};
 ghost use lib.ListN.{length};
 ghost use Rattle.history.specs.Collect.{collectWritten, collectOutput, collectState};
 ghost use Rattle.history.specs.Load.{loadVerdict, loadState};
 ghost use Rattle.history.specs.Pass.{passOf};
 ghost use Rattle.history.specs.Run.{runOf};
-ghost use Rattle.history.specs.State.{pixels, image, emptyJob, readyVerdict};
+ghost use Rattle.history.specs.State.{emptyJob, readyVerdict};
 ghost use Rattle.history.specs.View.{viewOf, figuresOf};
-ghost use Rattle.image.specs.File.{imageWritten, imageOutput};
 ghost use Rattle.job.specs.Core.{at, loaded, stepped, emptied};
 
 mod area;
@@ -180,27 +179,27 @@ pub fn view<'a>(job: Job, first: &'a [u8], second: &'a [u8]) -> &'a [u8]
 }
 
 // Number and place of a refused view: 14, 16.
-pub fn view_verdict(job: Job, first: &[u8], second: &[u8]) -> Verdict
+pub fn view_verdict<'a>(job: Job, first: &'a [u8], second: &'a [u8]) -> Verdict
     ensures { λ r. ⌜ r ≡ readyVerdict (at job (now (first .entry)) (now (second .entry))) ⌝ }
 {
     sound::ready(job, first, second)
 }
 
 // Figures: 14, 16; balance signed, cover in thousandths.
-pub fn figures(job: Job, first: &[u8], second: &[u8]) -> Figured
+pub fn figures<'a>(job: Job, first: &'a [u8], second: &'a [u8]) -> Figured
     ensures { λ r. ⌜ r ≡ figuresOf (at job (now (first .entry)) (now (second .entry))) ⌝ }
 {
     if let Verdict::Refused(refusal) = sound::ready(job, first, second) {
         return Figured::Refused(refusal);
     }
-    let black = figure::black(job, first, second);
+    let black = figure::black(area::image(job, first, second));
     let balance = figure::balance(job.added, job.removed);
     let cover = figure::cover(black, job.width * job.height);
     Figured::Figures { balance, cover }
 }
 
 // Collect: 14, 16, 17, 13; then the file in the output, and an empty record.
-pub fn collect_core(job: Job, first: &[u8], second: &[u8], out: &mut [u8]) -> Emptied
+pub fn collect_core<'a>(job: Job, first: &'a [u8], second: &'a [u8], out: &mut [u8]) -> Emptied
     ensures { λ r. ⌜ (r ≡ emptied (collectWritten (length (now (out .entry))) (at job (now (first .entry)) (now (second .entry))))
         (collectState (length (now (out .entry))) (at job (now (first .entry)) (now (second .entry)))))
         × (now (out .exit) ≡ collectOutput (now (out .entry)) (at job (now (first .entry)) (now (second .entry)))) ⌝ }
@@ -217,7 +216,7 @@ pub fn collect_core(job: Job, first: &[u8], second: &[u8], out: &mut [u8]) -> Em
             job,
         };
     }
-    let answer = write_image(job, first, second, out);
+    let answer = image::write(job.width, job.height, area::image(job, first, second), out);
     match answer {
         Written::Length(_) => Emptied {
             answer,
@@ -227,7 +226,7 @@ pub fn collect_core(job: Job, first: &[u8], second: &[u8], out: &mut [u8]) -> Em
     }
 }
 
-pub fn collect(job: &mut Job, first: &[u8], second: &[u8], out: &mut [u8]) -> Written
+pub fn collect<'a>(job: &mut Job, first: &'a [u8], second: &'a [u8], out: &mut [u8]) -> Written
     ensures { λ r. ⌜ (r ≡ collectWritten (length (now (out .entry))) (at (now (job .entry)) (now (first .entry)) (now (second .entry))))
         × (now (job .exit) ≡ collectState (length (now (out .entry))) (at (now (job .entry)) (now (first .entry)) (now (second .entry))) .job)
         × (now (out .exit) ≡ collectOutput (now (out .entry)) (at (now (job .entry)) (now (first .entry)) (now (second .entry)))) ⌝ }
@@ -235,20 +234,6 @@ pub fn collect(job: &mut Job, first: &[u8], second: &[u8], out: &mut [u8]) -> Wr
     let s = collect_core(*job, first, second, out);
     *job = s.job;
     s.answer
-}
-
-// The file of the present image.
-fn write_image(job: Job, first: &[u8], second: &[u8], out: &mut [u8]) -> Written
-    requires { ⌜ (pixels job ≤ length (now first)) × (pixels job ≤ length (now second)) ⌝ }
-    ensures { λ r. ⌜ (r ≡ imageWritten (job .width) (job .height) (image (at job (now (first .entry)) (now (second .entry)))) (length (now (out .entry))))
-        × (now (out .exit) ≡ imageOutput (job .width) (job .height) (image (at job (now (first .entry)) (now (second .entry)))) (now (out .entry))) ⌝ }
-{
-    let count = job.width * job.height;
-    if job.passes % 2 == 0 {
-        image::write(job.width, job.height, &first[..count], out)
-    } else {
-        image::write(job.width, job.height, &second[..count], out)
-    }
 }
 
 // An empty record: every field zero. What a job starts from.

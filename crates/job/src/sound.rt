@@ -1,13 +1,13 @@
 // When a job record is unsound with its areas (01: 14), and ready for a call (14, 16).
+use crate::area;
 use history::Job;
 use verdict::Refusal;
 use verdict::Verdict;
 ghost use mathlib.Core.Bool.{not};
 ghost use mathlib.Core.Path.{_≡_};
-ghost use Prim.Native.Nat.{_+_, _≤_};
+ghost use Prim.Native.Nat.{_+_};
 ghost use lib.Dec.{eqb, ltb};
-ghost use lib.ListN.{length};
-ghost use Rattle.history.specs.State.{pixels, image, readyVerdict};
+ghost use Rattle.history.specs.State.{readyVerdict};
 ghost use Rattle.image.specs.Size.{within, badSize};
 ghost use Rattle.job.specs.Core.{at};
 ghost use Rattle.seq.specs.Lists.{any, all};
@@ -24,7 +24,7 @@ pub(crate) const MAX_SIDE: usize = 256;
 pub(crate) const ELEMENTS: usize = 64;
 
 // What pass, run, view and figures begin with: 14, 16.
-pub(crate) fn ready(job: Job, first: &[u8], second: &[u8]) -> Verdict
+pub(crate) fn ready<'a>(job: Job, first: &'a [u8], second: &'a [u8]) -> Verdict
     ensures { λ r. ⌜ r ≡ readyVerdict (at job (now (first .entry)) (now (second .entry))) ⌝ }
 {
     if unsound(job, first, second) {
@@ -50,7 +50,7 @@ pub(crate) fn refusal(number: u32) -> Refusal
 }
 
 // 14, without its pass clause.
-pub(crate) fn unsound(job: Job, first: &[u8], second: &[u8]) -> bool
+pub(crate) fn unsound<'a>(job: Job, first: &'a [u8], second: &'a [u8]) -> bool
     ensures { λ r. ⌜ r ≡ Rattle.history.specs.State.unsound (at job (now (first .entry)) (now (second .entry))) ⌝ }
 {
     let stage = job.stage;
@@ -64,7 +64,7 @@ pub(crate) fn unsound(job: Job, first: &[u8], second: &[u8]) -> bool
 }
 
 // What 14 asks at stage 1 and 2.
-fn inconsistent(job: Job, first: &[u8], second: &[u8]) -> bool
+fn inconsistent<'a>(job: Job, first: &'a [u8], second: &'a [u8]) -> bool
     ensures { λ r. ⌜ r ≡ Rattle.history.specs.State.inconsistent (at job (now (first .entry)) (now (second .entry))) ⌝ }
 {
     if bad_size(job.width, job.height) {
@@ -81,26 +81,13 @@ fn inconsistent(job: Job, first: &[u8], second: &[u8]) -> bool
     if second.len() < pixels {
         return true;
     }
-    if stained(job, first, second) {
+    if above_one(area::image(job, first, second)) {
         return true;
     }
     if pixels < job.passes {
         return true;
     }
     sum_above(pixels, job.added, job.removed)
-}
-
-// A present pixel is above 1.
-fn stained(job: Job, first: &[u8], second: &[u8]) -> bool
-    requires { ⌜ (pixels job ≤ length (now first)) × (pixels job ≤ length (now second)) ⌝ }
-    ensures { λ r. ⌜ r ≡ any (ltb 1) (image (at job (now (first .entry)) (now (second .entry)))) ⌝ }
-{
-    let count = job.width * job.height;
-    if job.passes % 2 == 0 {
-        above_one(&first[..count])
-    } else {
-        above_one(&second[..count])
-    }
 }
 
 fn bad_size(width: usize, height: usize) -> bool

@@ -68,7 +68,7 @@ use Rattle.capi.proofs.mask_collect.Statement as stated
 use Rattle.capi.proofs.mask_collect.Code as code
 
 abbrev stayed : Stays (f.ended .signature .params) (f.ended .kept)
-stayed = (stay-ref (0 ∷ []) tt (plain (λ _. T.the-row)), (stay-none-slice (1 ∷ []) tt (plain (λ _. u8)) yes, (stay-none-slice (2 ∷ []) tt (plain (λ _. u8)) yes, (gave-slice (3 ∷ []) tt (plain (λ _. u8)), tt))))
+stayed = (stay-ref (0 ∷ []) tt (plain (λ _. T.the-row)), (stay-none-slice (1 ∷ []) tt (plain (λ _. u8)) yes, (stay-none-slice (1 ∷ []) tt (plain (λ _. u8)) yes, (gave-slice (2 ∷ []) tt (plain (λ _. u8)), tt))))
 
 -- the contract that the proof cites
 abbrev Callee : {M : Type 1} (𝓤 : URA M) (H : Heap 𝓤) (A : Atoms 𝓤) (mem : Memory → SProp 𝓤) (run : Routine → Fun 𝓤) → Contract 𝓤
@@ -94,7 +94,7 @@ answer-is r vs is = LL.owed S.the-type S′.the-laws r vs is .0
 job-is : (r : Res) (vs : List Val) → Is S.the-row r vs → Is T.the-row (r .job) (job-vals (r .job))
 job-is r vs is = LL.owed S.the-type S′.the-laws r vs is .1 .0
 
-module _ {M : Type 1} (𝓤 : URA M) (H : Heap 𝓤) (A : Atoms 𝓤) (W : Given 𝓤 H A) (at-mem : Memory → SProp 𝓤) (run : Routine → Fun 𝓤) (κ0 κ1 κ2 κ3 : Lft) (q0 q1 q2 q3 : Share) (b o : ℕ) (γ : GName) (job : Rec) (first : Slice) (second : Slice) (out : Slice) (room-first : Room u8 (length (first .now))) (room-second : Room u8 (length (second .now))) (room-out : Room u8 (length (out .now))) where
+module _ {M : Type 1} (𝓤 : URA M) (H : Heap 𝓤) (A : Atoms 𝓤) (W : Given 𝓤 H A) (at-mem : Memory → SProp 𝓤) (run : Routine → Fun 𝓤) (κ0 κ1 κ2 : Lft) (q0 q1 q2 : Share) (b o : ℕ) (γ : GName) (job : Rec) (first : Slice) (second : Slice) (out : Slice) (room-first : Room u8 (length (first .now))) (room-second : Room u8 (length (second .now))) (room-out : Room u8 (length (out .now))) where
   abbrev Arg : Type 0
   Arg = RefT Rec × (Slice × (Slice × (Slice × Unit {0})))
 
@@ -105,35 +105,35 @@ module _ {M : Type 1} (𝓤 : URA M) (H : Heap 𝓤) (A : Atoms 𝓤) (W : Given
   vals = (vptr b o ∷ [], (slice-val first ∷ [], (slice-val second ∷ [], (slice-val out ∷ [], tt))))
 
   abbrev Post : Val → SProp 𝓤
-  Post = walkOf 𝓤 H A f.ended stayed (f.clauses 𝓤 H A at-mem run) .post (((κ0, (κ1, (κ2, (κ3, tt)))), (q0, (q1, (q2, (q3, tt)))), tt, a, vals), tt)
+  Post = walkOf 𝓤 H A f.ended stayed (f.clauses 𝓤 H A at-mem run) .post (((κ0, (κ1, (κ2, tt))), (q0, (q1, (q2, tt))), tt, a, vals), tt)
 
   -- what `collect` ensures of its result and of the last lists
   abbrev Said : Res → List ℕ → Type 0
   Said r out′ = (r ≡ collectedBy (collectWritten (length ((out .now))) (the-at job ((first .now)) ((second .now)))) (collectState (length ((out .now))) (the-at job ((first .now)) ((second .now))))) × (out′ ≡ collectOutput ((out .now)) (the-at job ((first .now)) ((second .now))))
 
   abbrev to-callee : Callee 𝓤 H A at-mem run .Ghost
-  to-callee = (((κ1, (κ2, (κ3, tt))), (q1, (q2, (q3, tt))), tt, (job, (first, (second, (out, tt)))), (job-vals job, (slice-val first ∷ [], (slice-val second ∷ [], (slice-val out ∷ [], tt))))), tt)
+  to-callee = (((κ1, (κ2, tt)), (q1, (q2, tt)), tt, (job, (first, (second, (out, tt)))), (job-vals job, (slice-val first ∷ [], (slice-val second ∷ [], (slice-val out ∷ [], tt))))), tt)
 
   -- what the parameters but the first own
   abbrev Rest : Fml
-  Rest = owns (ShrSlice (named 1) κ1 u8 ∷ ShrSlice (named 2) κ2 u8 ∷ MutSlice (named 3) κ3 u8 ∷ []) (first, (second, (out, tt))) (slice-val first ∷ [], (slice-val second ∷ [], (slice-val out ∷ [], tt)))
+  Rest = owns (ShrSlice (named 1) κ1 u8 ∷ ShrSlice (named 1) κ1 u8 ∷ MutSlice (named 2) κ2 u8 ∷ []) (first, (second, (out, tt))) (slice-val first ∷ [], (slice-val second ∷ [], (slice-val out ∷ [], tt)))
 
-  goes : ent 𝓤 (⋆ 𝓤 H A ((‵ (flft κ1 q1) ⊛ ‵ (flft κ2 q2) ⊛ ‵ (flft κ3 q3) ⊛ ‵ ftrue) ∷ ‵ (T.the-row .own job (job-vals job)) ∷ ‵ Rest ∷ [])) (Callee 𝓤 H A at-mem run .pre to-callee)
-  goes = qed W ((‵ (flft κ1 q1) ⊛ ‵ (flft κ2 q2) ⊛ ‵ (flft κ3 q3) ⊛ ‵ ftrue) ∷ ‵ (T.the-row .own job (job-vals job)) ∷ ‵ Rest ∷ []) ∵ move ! (1 ∷ 2 ∷ []) $ fjoin ! $ move ! (1 ∷ 0 ∷ []) $ join ! $ frame ! $ done !
+  goes : ent 𝓤 (⋆ 𝓤 H A ((‵ (flft κ1 q1) ⊛ ‵ (flft κ2 q2) ⊛ ‵ ftrue) ∷ ‵ (T.the-row .own job (job-vals job)) ∷ ‵ Rest ∷ [])) (Callee 𝓤 H A at-mem run .pre to-callee)
+  goes = qed W ((‵ (flft κ1 q1) ⊛ ‵ (flft κ2 q2) ⊛ ‵ ftrue) ∷ ‵ (T.the-row .own job (job-vals job)) ∷ ‵ Rest ∷ []) ∵ move ! (1 ∷ 2 ∷ []) $ fjoin ! $ move ! (1 ∷ 0 ∷ []) $ join ! $ frame ! $ done !
 
   exits : (r : Res) (w : Val) → Is S.the-row r (w ∷ []) → (out′ : List ℕ) → length out′ ≡ length (out .now) → Said r out′
-      → ent 𝓤 (⋆ 𝓤 H A (‵ (fobs γ (T.the-row .coded .code (r .job))) ∷ ‵ (fbor κ0 (Body (mem T.the-row) b o γ)) ∷ ‵ (flft κ0 q0) ∷ (‵ (flft κ1 q1) ⊛ ‵ (flft κ2 q2) ⊛ ‵ (flft κ3 q3) ⊛ ‵ ftrue) ∷ ‵ (ShrSlice (named 1) κ1 u8 .own first (slice-val first ∷ [])) ∷ ‵ (ShrSlice (named 2) κ2 u8 .own second (slice-val second ∷ [])) ∷ ‵ (finally u8 (out .name) out′) ∷ [])) (Post (LL.val N.the-type N′.the-laws (r .answer)))
+      → ent 𝓤 (⋆ 𝓤 H A (‵ (fobs γ (T.the-row .coded .code (r .job))) ∷ ‵ (fbor κ0 (Body (mem T.the-row) b o γ)) ∷ ‵ (flft κ0 q0) ∷ (‵ (flft κ1 q1) ⊛ ‵ (flft κ2 q2) ⊛ ‵ ftrue) ∷ ‵ (ShrSlice (named 1) κ1 u8 .own first (slice-val first ∷ [])) ∷ ‵ (ShrSlice (named 1) κ1 u8 .own second (slice-val second ∷ [])) ∷ ‵ (finally u8 (out .name) out′) ∷ [])) (Post (LL.val N.the-type N′.the-laws (r .answer)))
   exits r w is out′ l-out e =
-      qed W (‵ (fobs γ (T.the-row .coded .code (r .job))) ∷ ‵ (fbor κ0 (Body (mem T.the-row) b o γ)) ∷ ‵ (flft κ0 q0) ∷ (‵ (flft κ1 q1) ⊛ ‵ (flft κ2 q2) ⊛ ‵ (flft κ3 q3) ⊛ ‵ ftrue) ∷ ‵ (ShrSlice (named 1) κ1 u8 .own first (slice-val first ∷ [])) ∷ ‵ (ShrSlice (named 2) κ2 u8 .own second (slice-val second ∷ [])) ∷ ‵ (finally u8 (out .name) out′) ∷ []) ∵
-      suffices ! _ (ends-at 𝓤 H A f.ended stayed (f.clauses 𝓤 H A at-mem run) W (((κ0, (κ1, (κ2, (κ3, tt)))), (q0, (q1, (q2, (q3, tt)))), tt, a, vals), tt) (LL.val N.the-type N′.the-laws (r .answer)) (r .answer) (r .job, (tt, (tt, (out′, tt)))) (tt, (tt, (tt, (l-out, tt))))) $
+      qed W (‵ (fobs γ (T.the-row .coded .code (r .job))) ∷ ‵ (fbor κ0 (Body (mem T.the-row) b o γ)) ∷ ‵ (flft κ0 q0) ∷ (‵ (flft κ1 q1) ⊛ ‵ (flft κ2 q2) ⊛ ‵ ftrue) ∷ ‵ (ShrSlice (named 1) κ1 u8 .own first (slice-val first ∷ [])) ∷ ‵ (ShrSlice (named 1) κ1 u8 .own second (slice-val second ∷ [])) ∷ ‵ (finally u8 (out .name) out′) ∷ []) ∵
+      suffices ! _ (ends-at 𝓤 H A f.ended stayed (f.clauses 𝓤 H A at-mem run) W (((κ0, (κ1, (κ2, tt))), (q0, (q1, (q2, tt))), tt, a, vals), tt) (LL.val N.the-type N′.the-laws (r .answer)) (r .answer) (r .job, (tt, (tt, (out′, tt)))) (tt, (tt, (tt, (l-out, tt))))) $
       says ! (ap (λ (z : Res). z .answer) (e .0), ap (λ (z : Res). z .job) (e .0), e .1) $
       move ! (2 ∷ 3 ∷ []) $ join ! $ frame ! $ feqI ! (List Val) (vptr b o ∷ []) (vptr b o ∷ []) refl $ fjoin3 ! $ nothing ! $ move ! (4 ∷ 0 ∷ []) $ fjoin ! $ move ! (3 ∷ 0 ∷ []) $ fjoin ! $ move ! (2 ∷ 0 ∷ []) $ fjoin ! $ move ! (1 ∷ 0 ∷ []) $ fjoin ! $ frame ! $
       owned ! N.the-row (Is N.the-row) (LL.makes N.the-type N′.the-plain 𝓤 H A) (r .answer) _ (answer-is r (w ∷ []) is) $ done !
 
   module _ (C : Calls 𝓤 H) (Λ : Loops 𝓤 H) (fm : FmC 𝓤 H (W .laws) C) (known : Triple 𝓤 (C #callee) (Callee 𝓤 H A at-mem run)) where
-    walk : ent 𝓤 (onEntry 𝓤 H A f.signature (κ0, (κ1, (κ2, (κ3, tt)))) (q0, (q1, (q2, (q3, tt)))) a vals) (WpFn 𝓤 H C Λ code.function (vptr b o ∷ slice-val first ∷ slice-val second ∷ slice-val out ∷ []) Post)
+    walk : ent 𝓤 (onEntry 𝓤 H A f.signature (κ0, (κ1, (κ2, tt))) (q0, (q1, (q2, tt))) a vals) (WpFn 𝓤 H C Λ code.function (vptr b o ∷ slice-val first ∷ slice-val second ∷ slice-val out ∷ []) Post)
     walk =
-        qed W ((‵ (flft κ0 q0) ⊛ ‵ (flft κ1 q1) ⊛ ‵ (flft κ2 q2) ⊛ ‵ (flft κ3 q3) ⊛ ‵ ftrue) ∷ ‵ (owns (MutRef (named 0) κ0 T.the-row ∷ ShrSlice (named 1) κ1 u8 ∷ ShrSlice (named 2) κ2 u8 ∷ MutSlice (named 3) κ3 u8 ∷ []) a vals) ∷ []) ∵ enter ! C Λ code.function (vptr b o ∷ slice-val first ∷ slice-val second ∷ slice-val out ∷ []) _ $
+        qed W ((‵ (flft κ0 q0) ⊛ ‵ (flft κ1 q1) ⊛ ‵ (flft κ2 q2) ⊛ ‵ ftrue) ∷ ‵ (owns (MutRef (named 0) κ0 T.the-row ∷ ShrSlice (named 1) κ1 u8 ∷ ShrSlice (named 1) κ1 u8 ∷ MutSlice (named 2) κ2 u8 ∷ []) a vals) ∷ []) ∵ enter ! C Λ code.function (vptr b o ∷ slice-val first ∷ slice-val second ∷ slice-val out ∷ []) _ $
         alloc1 ! (λ l0. alloc1 ! (λ l1. alloc1 ! (λ l2. alloc1 ! (λ l3. alloc1 ! (λ l4. alloc1 ! (λ l5. alloc1 ! (λ l6. alloc1 ! (λ l7. alloc1 ! (λ l8. alloc0 ! $ params1 ! $
         pass1 ! (init ! 14 refl (tt, tt)) $ pass1 ! (init ! 12 refl (tt, (tt, (record { fits = room-first .0 }, tt)))) $ pass1 ! (init ! 10 refl (tt, (tt, (record { fits = room-second .0 }, tt)))) $ pass1 ! (init ! 8 refl (tt, (tt, (record { fits = room-out .0 }, tt)))) $ pass0 ! $
         -- the borrow is opened
@@ -145,13 +145,13 @@ module _ {M : Type 1} (𝓤 : URA M) (H : Heap 𝓤) (A : Atoms 𝓤) (W : Given
         assigns ! (addr ! (from ! (fld ! refl (hop ! (look-in ! 15 (sub ! 0 refl (whole !))) (stop !))))) (from ! (stop !)) (init ! 9 refl (tt, tt)) $
         assigns ! (agg ! (and-then ! (load ! (from ! (stop !)) (look ! 9 refl)) (and-then ! (load ! (from ! (fld ! refl (stop !))) (look-in ! 15 (sub ! 1 refl (whole !)))) (no-more !)))) (from ! (stop !)) (init ! 7 refl (tt, (tt, (record { fits = room-out .0 }, tt)))) $
         -- what each `&` slice owns is had twice: one copy is kept for the exit
-        move ! (6 ∷ []) $ fsplit ! $ use1 W (‵ (ShrSlice (named 1) κ1 u8 .own first (slice-val first ∷ [])) ⊛ ‵ (ShrSlice (named 1) κ1 u8 .own first (slice-val first ∷ []))) (shr-slice-copy 𝓤 H A W (named 1) κ1 u8 .twice first (slice-val first ∷ [])) $ split ! $ move ! (2 ∷ []) $ fsplit ! $ use1 W (‵ (ShrSlice (named 2) κ2 u8 .own second (slice-val second ∷ [])) ⊛ ‵ (ShrSlice (named 2) κ2 u8 .own second (slice-val second ∷ []))) (shr-slice-copy 𝓤 H A W (named 2) κ2 u8 .twice second (slice-val second ∷ [])) $ split ! $ move ! (2 ∷ []) $ fsplit ! $ move ! (1 ∷ []) $ move ! (1 ∷ 0 ∷ []) $ fjoin ! $ move ! (2 ∷ 0 ∷ []) $ fjoin ! $ move ! (3 ∷ 0 ∷ []) $ fjoin ! $
+        move ! (6 ∷ []) $ fsplit ! $ use1 W (‵ (ShrSlice (named 1) κ1 u8 .own first (slice-val first ∷ [])) ⊛ ‵ (ShrSlice (named 1) κ1 u8 .own first (slice-val first ∷ []))) (shr-slice-copy 𝓤 H A W (named 1) κ1 u8 .twice first (slice-val first ∷ [])) $ split ! $ move ! (2 ∷ []) $ fsplit ! $ use1 W (‵ (ShrSlice (named 1) κ1 u8 .own second (slice-val second ∷ [])) ⊛ ‵ (ShrSlice (named 1) κ1 u8 .own second (slice-val second ∷ []))) (shr-slice-copy 𝓤 H A W (named 1) κ1 u8 .twice second (slice-val second ∷ [])) $ split ! $ move ! (2 ∷ []) $ fsplit ! $ move ! (1 ∷ []) $ move ! (1 ∷ 0 ∷ []) $ fjoin ! $ move ! (2 ∷ 0 ∷ []) $ fjoin ! $ move ! (3 ∷ 0 ∷ []) $ fjoin ! $
         -- `collect`
         move ! (8 ∷ 4 ∷ 0 ∷ []) $ use3 W (raw (Callee 𝓤 H A at-mem run .pre to-callee)) goes $
         -- [pre; second; first; cell; obor; obs; auth; L8; D8; L7; D7; L6; D6; L5; D5; L4; D4; L3; D3; L2; D2; L1; D1; L0; D0]
         calls-at ! fm (Callee 𝓤 H A at-mem run) known to-callee (and-then ! (load ! (from ! (stop !)) (look ! 11 refl)) (and-then ! (load ! (from ! (stop !)) (look ! 19 refl)) (and-then ! (load ! (from ! (stop !)) (look ! 17 refl)) (and-then ! (load ! (from ! (stop !)) (look ! 7 refl)) (no-more !))))) (λ w.
-        use1 W (later (some (λ (r : Res). ((‵ (flft κ1 q1) ⊛ ‵ (flft κ2 q2) ⊛ ‵ (flft κ3 q3) ⊛ ‵ ftrue) ⊛ ‵ (S.the-row .own r (w ∷ []))) ⊛ raw (ensured 𝓤 H A callee.ended (callee.clauses 𝓤 H A at-mem run) (κ1, (κ2, (κ3, tt))) (job, (first, (second, (out, tt)))) tt r)))) (id⊢ 𝓤 _) $ await ! tt $ pick ! (λ r.
-        split ! $ move ! (1 ∷ []) $ use1 W (some (λ (zs : Unit {0} × (Unit {0} × (Unit {0} × (List ℕ × Unit {0})))). ‵ (lasts callee.ended (κ1, (κ2, (κ3, tt))) (job, (first, (second, (out, tt)))) zs) ⊛ raw (fact 𝓤 (Said r (zs .1 .1 .1 .0))))) (id⊢ 𝓤 _) $ pick ! (λ zs.
+        use1 W (later (some (λ (r : Res). ((‵ (flft κ1 q1) ⊛ ‵ (flft κ2 q2) ⊛ ‵ ftrue) ⊛ ‵ (S.the-row .own r (w ∷ []))) ⊛ raw (ensured 𝓤 H A callee.ended (callee.clauses 𝓤 H A at-mem run) (κ1, (κ2, tt)) (job, (first, (second, (out, tt)))) tt r)))) (id⊢ 𝓤 _) $ await ! tt $ pick ! (λ r.
+        split ! $ move ! (1 ∷ []) $ use1 W (some (λ (zs : Unit {0} × (Unit {0} × (Unit {0} × (List ℕ × Unit {0})))). ‵ (lasts callee.ended (κ1, (κ2, tt)) (job, (first, (second, (out, tt)))) zs) ⊛ raw (fact 𝓤 (Said r (zs .1 .1 .1 .0))))) (id⊢ 𝓤 _) $ pick ! (λ zs.
         split ! $ move ! (1 ∷ []) $ heard ! (Said r (zs .1 .1 .1 .0)) (λ e. fsplit ! $ drop ! $ fsplit ! $ drop ! $ fsplit ! $ drop ! $ fsplit ! $ fsplit ! $ move ! (1 ∷ []) $ feqL ! (λ l-out.
         -- [out; lasts; res; second; first; cell; obor; obs; auth; L8; D8; L7; D7; L6; D6; L5; D5; L4; D4; L3; D3; L2; D2; L1; D1; L0; D0]
         move ! (2 ∷ []) $ split ! $ move ! (1 ∷ []) $ peeks ! S.the-row (Is S.the-row) (shows 𝓤 H A S.the-row) r (w ∷ []) (λ is.
@@ -168,13 +168,13 @@ module _ {M : Type 1} (𝓤 : URA M) (H : Heap 𝓤) (A : Atoms 𝓤) (W : Given
 module _ {M : Type 1} (𝓤 : URA M) (H : Heap 𝓤) (A : Atoms 𝓤) (W : Given 𝓤 H A) (mem : Memory → SProp 𝓤) (run : Routine → Fun 𝓤) where
   mask-collect-walks : (C : Calls 𝓤 H) (Λ : Loops 𝓤 H) → FmC 𝓤 H (W .laws) C → Triple 𝓤 (C #callee) (Callee 𝓤 H A mem run) → Walks 𝓤 H A f.ended stayed (WpFn 𝓤 H C Λ code.function) (f.clauses 𝓤 H A mem run)
   mask-collect-walks C Λ fm known = walked 𝓤 H A f.ended stayed (f.clauses 𝓤 H A mem run) (WpFn 𝓤 H C Λ code.function) (λ κs. (ptr-vals, (slice-vals, (slice-vals, (slice-vals, tt)))))
-      (λ κs. (mut-tells (named 0) (κs .0) T.the-row, (shr-slice-tells (named 1) (κs .1 .0) u8, (shr-slice-tells (named 2) (κs .1 .1 .0) u8, (mut-slice-tells (named 3) (κs .1 .1 .1 .0) u8, tt)))))
-      (λ κs qs bounds a g are. via 𝓤 _ (fst∗ 𝓤 _ (emp 𝓤)) (walk 𝓤 H A W mem run (κs .0) (κs .1 .0) (κs .1 .1 .0) (κs .1 .1 .1 .0) (qs .0) (qs .1 .0) (qs .1 .1 .0) (qs .1 .1 .1 .0) (a .0 .ptr .0) (a .0 .ptr .1) (a .0 .name) (a .0 .now) (a .1 .0) (a .1 .1 .0) (a .1 .1 .1 .0) (are .1 .0 .0 .1) (are .1 .1 .0 .0 .1) (are .1 .1 .1 .0 .0 .1) C Λ fm known))
+      (λ κs. (mut-tells (named 0) (κs .0) T.the-row, (shr-slice-tells (named 1) (κs .1 .0) u8, (shr-slice-tells (named 1) (κs .1 .0) u8, (mut-slice-tells (named 2) (κs .1 .1 .0) u8, tt)))))
+      (λ κs qs bounds a g are. via 𝓤 _ (fst∗ 𝓤 _ (emp 𝓤)) (walk 𝓤 H A W mem run (κs .0) (κs .1 .0) (κs .1 .1 .0) (qs .0) (qs .1 .0) (qs .1 .1 .0) (a .0 .ptr .0) (a .0 .ptr .1) (a .0 .name) (a .0 .now) (a .1 .0) (a .1 .1 .0) (a .1 .1 .1 .0) (are .1 .0 .0 .1) (are .1 .1 .0 .0 .1) (are .1 .1 .1 .0 .0 .1) C Λ fm known))
 
 mask-collect-meets : {M : Type 1} (𝓤 : URA M) (H : Heap 𝓤) (A : Atoms 𝓤) → Given 𝓤 H A → (mem : Memory → SProp 𝓤) (run : Routine → Fun 𝓤) (𝓣 : Tables 𝓤 H) → Triple 𝓤 (𝓣 .C #callee) (Callee 𝓤 H A mem run)
     → Meets 𝓤 H A f.signature (WpFn 𝓤 H (𝓣 .C) (𝓣 .Λ) code.function) (f.spec 𝓤 H A mem run)
 mask-collect-meets 𝓤 H A W mem run 𝓣 known =
-    walk-meets 𝓤 H A f.ended stayed W (goes-ref 𝓤 H A W 4 0 tt (plain (λ _. T.the-row)), (goes-none-slice 𝓤 H A W 4 (1 ∷ []) tt (plain (λ _. u8)) yes, (goes-none-slice 𝓤 H A W 4 (2 ∷ []) tt (plain (λ _. u8)) yes, (goes-gave-slice 𝓤 H A W 4 3 tt (plain (λ _. u8)), tt)))) (f.clauses 𝓤 H A mem run)
+    walk-meets 𝓤 H A f.ended stayed W (goes-ref 𝓤 H A W 3 0 tt (plain (λ _. T.the-row)), (goes-none-slice 𝓤 H A W 3 (1 ∷ []) tt (plain (λ _. u8)) yes, (goes-none-slice 𝓤 H A W 3 (1 ∷ []) tt (plain (λ _. u8)) yes, (goes-gave-slice 𝓤 H A W 3 2 tt (plain (λ _. u8)), tt)))) (f.clauses 𝓤 H A mem run)
     (WpFn 𝓤 H (𝓣 .C) (𝓣 .Λ) code.function) (WpFn-mono 𝓤 H (W .laws) 𝓣 code.function) (mask-collect-walks 𝓤 H A W mem run (𝓣 .C) (𝓣 .Λ) (fmOf 𝓤 H (W .laws) 𝓣) known)
 
 pub mask-collect-spec : {M : Type 1} → stated.statement M

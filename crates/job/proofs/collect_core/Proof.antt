@@ -2,13 +2,13 @@
 -- Assumes nothing.
 use mathlib.Core.Path.{sym, _∙_}
 use borrow.Author.Needs.{needs}
-use Rattle.job.proofs.Collects.{unready, unsettled, written, unwritten}
+use Rattle.job.proofs.Collects.{same-pixels, unready, unsettled, written, unwritten}
 use Rattle.job.proofs.Ready.{accepted-ready}
 use Rattle.job.proofs.collect_core.Statement.{statement}
 use Rattle.job.proofs.collect_core.Tie as tie
 
 ready-requires : tie.Need-ready-requires
-ready-requires c κs = search needs
+ready-requires c κs = tt
 
 enum-known-refusal : tie.Need-enum-known-refusal
 enum-known-refusal c = search needs
@@ -20,7 +20,7 @@ enum-told : tie.Need-enum-told
 enum-told c = search needs
 
 refusal-requires : tie.Need-refusal-requires
-refusal-requires c κs = search needs
+refusal-requires c κs = tt
 
 returns-2 : tie.Need-returns-2
 returns-2 c =
@@ -28,17 +28,20 @@ returns-2 c =
     let told = test .before .before in
     rw (c .refusal2 .ensures) (unsettled _ _ (sym (told .before .before .ready .ensures) ∙ told .enum-told .given .1) (test .if1 .taken))
 
-write-image-requires : tie.Need-write-image-requires
-write-image-requires c κs =
-    let told = c .before .before .before in
+image-requires : tie.Need-image-requires
+image-requires c κs =
+    let told = c .before .before in
     let ready = accepted-ready _ (sym (told .before .before .ready .ensures) ∙ told .enum-told .given .1) in
     (ready .first, ready .second)
+
+write-requires : tie.Need-write-requires
+write-requires c κs = tt
 
 enum-told-2 : tie.Need-enum-told-2
 enum-told-2 c = search needs
 
 empty-requires : tie.Need-empty-requires
-empty-requires c κs = search needs
+empty-requires c κs = tt
 
 enum-told-3 : tie.Need-enum-told-3
 enum-told-3 c = search needs
@@ -49,10 +52,12 @@ same-length c = search needs
 returns-3 : tie.Need-returns-3
 returns-3 c =
     let write = c .before .before .before .before .before in
-    let test = write .before .before in
+    let image = write .before .before in
+    let test = image .before in
     let told = test .before .before in
+    let done = same-pixels _ _ _ (image .image .ensures) (write .write .ensures) in
     written _ _ (sym (told .before .before .ready .ensures) ∙ told .enum-told .given .1) (test .if1 .left)
-    (write .write-image .ensures .0) (write .write-image .ensures .1) (c .before .enum-told2 .given .1) (c .empty .ensures)
+    (done .0) (done .1) (c .before .enum-told2 .given .1) (c .empty .ensures)
 
 same-length-2 : tie.Need-same-length-2
 same-length-2 c = search needs
@@ -60,10 +65,12 @@ same-length-2 c = search needs
 returns-4 : tie.Need-returns-4
 returns-4 c =
     let write = c .before .before .before .before in
-    let test = write .before .before in
+    let image = write .before .before in
+    let test = image .before in
     let told = test .before .before in
+    let done = same-pixels _ _ _ (image .image .ensures) (write .write .ensures) in
     unwritten _ _ (sym (told .before .before .ready .ensures) ∙ told .enum-told .given .1) (test .if1 .left)
-    (write .write-image .ensures .0) (write .write-image .ensures .1) (c .enum-told3 .given .1)
+    (done .0) (done .1) (c .enum-told3 .given .1)
 
 pub collect-core-spec : {M : Type 1} → statement M
 collect-core-spec =
@@ -75,7 +82,8 @@ collect-core-spec =
     enum-told
     refusal-requires
     returns-2
-    write-image-requires
+    image-requires
+    write-requires
     enum-told-2
     empty-requires
     enum-told-3

@@ -1,6 +1,6 @@
 -- `job::load_core`: 14, 15, the table, then the reader.
 -- Assumes nothing.
-use mathlib.Core.Path.{sym, _∙_}
+use mathlib.Core.Path.{refl, sym, _∙_}
 use borrow.Author.Needs.{needs}
 use Rattle.job.proofs.Areas.{part-length}
 use Rattle.job.proofs.Loads.{unsound-load, full-load, bad-table, read-in, unread}
@@ -8,13 +8,13 @@ use Rattle.job.proofs.load_core.Statement.{statement}
 use Rattle.job.proofs.load_core.Tie as tie
 
 unsound-requires : tie.Need-unsound-requires
-unsound-requires c κs = search needs
+unsound-requires c κs = tt
 
 refused-requires : tie.Need-refused-requires
-refused-requires c κs = search needs
+refused-requires c κs = tt
 
 same-length : tie.Need-same-length
-same-length c = search needs
+same-length c = refl
 
 returns : tie.Need-returns
 returns c =
@@ -22,10 +22,10 @@ returns c =
     rw (c .refused .ensures) (unsound-load _ _ _ (sym (test .before .unsound .ensures) ∙ test .if1 .taken))
 
 refused-requires-2 : tie.Need-refused-requires-2
-refused-requires-2 c κs = search needs
+refused-requires-2 c κs = tt
 
 same-length-2 : tie.Need-same-length-2
-same-length-2 c = search needs
+same-length-2 c = refl
 
 returns-2 : tie.Need-returns-2
 returns-2 c =
@@ -34,13 +34,13 @@ returns-2 c =
     rw (c .refused2 .ensures) (full-load _ _ _ (sym (test .before .unsound .ensures) ∙ test .if1 .left) (stage .if2 .taken))
 
 check-requires : tie.Need-check-requires
-check-requires c κs = search needs
+check-requires c κs = tt
 
 enum-known-refusal : tie.Need-enum-known-refusal
 enum-known-refusal c = search needs
 
 same-length-3 : tie.Need-same-length-3
-same-length-3 c = search needs
+same-length-3 c = refl
 
 returns-3 : tie.Need-returns-3
 returns-3 c =
@@ -54,7 +54,7 @@ enum-told : tie.Need-enum-told
 enum-told c = search needs
 
 lesser-requires : tie.Need-lesser-requires
-lesser-requires c κs = search needs
+lesser-requires c κs = tt
 
 slice-relend-prefix-read : tie.Need-slice-relend-prefix-read
 slice-relend-prefix-read c = search needs
@@ -63,7 +63,7 @@ slice-aggregate-read : tie.Need-slice-aggregate-read
 slice-aggregate-read c = part-length _ _ (slice-relend-prefix-read (c .before))
 
 read-requires : tie.Need-read-requires
-read-requires c κs = search needs
+read-requires c κs = tt
 
 enum-known-width : tie.Need-enum-known-width
 enum-known-width c = search needs

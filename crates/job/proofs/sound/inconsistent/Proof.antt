@@ -5,20 +5,20 @@ use native.Mathlib.Omega.{arith}
 use borrow.Author.Needs.{needs}
 use borrow.Author.Tests.{lt-ltb, le-ltb}
 use Rattle.history.specs.State.{inconsistent}
-use Rattle.job.proofs.Inconsistent.{stained, many-passes, counts-left}
+use Rattle.job.proofs.Inconsistent.{pixels-seen, stained, many-passes, counts-left}
 use Rattle.job.proofs.Settled.{small}
 use Rattle.job.proofs.sound.inconsistent.Statement.{statement}
 use Rattle.job.proofs.sound.inconsistent.Tie as tie
 
 bad-size-requires : tie.Need-bad-size-requires
-bad-size-requires c κs = search needs
+bad-size-requires c κs = tt
 
 returns : tie.Need-returns
 unfolding inconsistent
 returns c = simp (sym (c .before .bad-size .ensures) ∙ c .if1 .taken)
 
 check-requires : tie.Need-check-requires
-check-requires c κs = search needs
+check-requires c κs = tt
 
 enum-told : tie.Need-enum-told
 enum-told c = search needs
@@ -63,41 +63,47 @@ returns-4 c =
       lt-ltb _ _ (c .if3 .taken),
     )
 
-stained-requires : tie.Need-stained-requires
-stained-requires c κs = search needs
+image-requires : tie.Need-image-requires
+image-requires c κs = search needs
+
+above-one-requires : tie.Need-above-one-requires
+above-one-requires c κs = tt
 
 returns-5 : tie.Need-returns-5
 returns-5 c =
-    let areas = c .before .before in
+    let seen = c .before in
+    let areas = seen .before .before in
     let told = areas .before .before .before in
     let check = told .before .before in
     let size = check .before .before in
     stained _ (sym (size .before .bad-size .ensures) ∙ size .if1 .left) (sym (check .check .ensures) ∙ told .enum-told2 .given .1)
-    (areas .before .if2 .left) (areas .if3 .left) (sym (c .before .stained .ensures) ∙ c .if4 .taken)
+    (areas .before .if2 .left) (areas .if3 .left) (pixels-seen (seen .before .image .ensures) (seen .above-one .ensures) ∙ c .if4 .taken)
 
 returns-6 : tie.Need-returns-6
 returns-6 c =
     let pixel = c .before .before in
-    let areas = pixel .before .before in
+    let seen = pixel .before in
+    let areas = seen .before .before in
     let told = areas .before .before .before in
     let check = told .before .before in
     let size = check .before .before in
     many-passes _ (sym (size .before .bad-size .ensures) ∙ size .if1 .left) (sym (check .check .ensures) ∙ told .enum-told2 .given .1)
-    (areas .before .if2 .left) (areas .if3 .left) (sym (pixel .before .stained .ensures) ∙ pixel .if4 .left) (c .if5 .taken)
+    (areas .before .if2 .left) (areas .if3 .left) (pixels-seen (seen .before .image .ensures) (seen .above-one .ensures) ∙ pixel .if4 .left) (c .if5 .taken)
 
 sum-above-requires : tie.Need-sum-above-requires
-sum-above-requires c κs = search needs
+sum-above-requires c κs = tt
 
 returns-7 : tie.Need-returns-7
 returns-7 c =
     let pixel = c .before .before .before in
-    let areas = pixel .before .before in
+    let seen = pixel .before in
+    let areas = seen .before .before in
     let told = areas .before .before .before in
     let check = told .before .before in
     let size = check .before .before in
     c .sum-above .ensures
     ∙ counts-left _ (sym (size .before .bad-size .ensures) ∙ size .if1 .left) (sym (check .check .ensures) ∙ told .enum-told2 .given .1)
-    (areas .before .if2 .left) (areas .if3 .left) (sym (pixel .before .stained .ensures) ∙ pixel .if4 .left) (c .before .if5 .left)
+    (areas .before .if2 .left) (areas .if3 .left) (pixels-seen (seen .before .image .ensures) (seen .above-one .ensures) ∙ pixel .if4 .left) (c .before .if5 .left)
 
 pub inconsistent-spec : {M : Type 1} → statement M
 inconsistent-spec =
@@ -112,7 +118,8 @@ inconsistent-spec =
     mul-pixels
     returns-3
     returns-4
-    stained-requires
+    image-requires
+    above-one-requires
     returns-5
     returns-6
     sum-above-requires

@@ -1,24 +1,23 @@
 -- `job::sound::ready`: 14, then 16.
 -- Assumes nothing.
 use mathlib.Core.Path.{sym, _∙_}
-use borrow.Author.Needs.{needs}
 use borrow.Author.Tests.{eq-eqb, ne-eqb}
 use Rattle.history.specs.State.{readyVerdict}
 use Rattle.job.proofs.sound.ready.Statement.{statement}
 use Rattle.job.proofs.sound.ready.Tie as tie
 
 unsound-requires : tie.Need-unsound-requires
-unsound-requires c κs = search needs
+unsound-requires c κs = tt
 
 refused-requires : tie.Need-refused-requires
-refused-requires c κs = search needs
+refused-requires c κs = tt
 
 returns : tie.Need-returns
 unfolding readyVerdict
 returns c = simp (c .refused .ensures, sym (c .before .before .unsound .ensures) ∙ c .before .if1 .taken)
 
 refused-requires-2 : tie.Need-refused-requires-2
-refused-requires-2 c κs = search needs
+refused-requires-2 c κs = tt
 
 returns-2 : tie.Need-returns-2
 unfolding readyVerdict

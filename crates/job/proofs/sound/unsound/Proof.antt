@@ -1,6 +1,5 @@
 -- `job::sound::unsound`: by the stage.
 -- Assumes nothing.
-use borrow.Author.Needs.{needs}
 use borrow.Author.Tests.{lt-ltb, le-ltb, eq-eqb, ne-eqb}
 use Rattle.history.specs.State.{unsound}
 use Rattle.job.proofs.sound.unsound.Statement.{statement}
@@ -11,14 +10,14 @@ unfolding unsound
 returns c = simp (lt-ltb _ _ (c .if1 .taken))
 
 nonzero-requires : tie.Need-nonzero-requires
-nonzero-requires c κs = search needs
+nonzero-requires c κs = tt
 
 returns-2 : tie.Need-returns-2
 unfolding unsound
 returns-2 c = simp (le-ltb _ _ (c .before .before .if1 .left), eq-eqb _ _ (c .before .if2 .taken), c .nonzero .ensures)
 
 inconsistent-requires : tie.Need-inconsistent-requires
-inconsistent-requires c κs = search needs
+inconsistent-requires c κs = tt
 
 returns-3 : tie.Need-returns-3
 unfolding unsound

@@ -1,6 +1,7 @@
 -- `job::step::advance`: the filter refuses nothing here, and gives the next image and its counts.
 -- Assumes nothing.
 use native.Mathlib.Omega.{arith}
+use mathlib.Core.Path.{refl}
 use borrow.Author.Needs.{needs}
 use Rattle.job.proofs.Areas.{part-length}
 use Rattle.job.proofs.Filtered.{computed, never-refused}
@@ -12,7 +13,7 @@ mul-pixels : tie.Need-mul-pixels
 mul-pixels c = search needs
 
 blank-requires : tie.Need-blank-requires
-blank-requires c κs = search needs
+blank-requires c κs = tt
 
 image-requires : tie.Need-image-requires
 image-requires c κs = search needs
@@ -21,7 +22,7 @@ slice-aggregate-pass : tie.Need-slice-aggregate-pass
 slice-aggregate-pass c = search needs
 
 pass-requires : tie.Need-pass-requires
-pass-requires c κs = search needs
+pass-requires c κs = tt
 
 enum-known-made : tie.Need-enum-known-made
 enum-known-made c = search needs
@@ -55,10 +56,10 @@ returns : tie.Need-returns
 returns c = search needs
 
 same-length-3 : tie.Need-same-length-3
-same-length-3 c = search needs
+same-length-3 c = refl
 
 same-length-4 : tie.Need-same-length-4
-same-length-4 c = search needs
+same-length-4 c = refl
 
 returns-2 : tie.Need-returns-2
 returns-2 c =

@@ -1,7 +1,6 @@
 -- `job::step::exceeds`: one pass more is above the pixels where the passes have reached them.
 -- Assumes nothing.
 use mathlib.Core.Path.{_∙_}
-use borrow.Author.Needs.{needs}
 use Rattle.job.proofs.Counts.{reached, not-reached}
 use Rattle.job.proofs.step.exceeds.Statement.{statement}
 use Rattle.job.proofs.step.exceeds.Tie as tie
@@ -10,7 +9,7 @@ returns : tie.Need-returns
 returns c = reached _ _ _ (c .if1 .taken)
 
 sum-above-requires : tie.Need-sum-above-requires
-sum-above-requires c κs = search needs
+sum-above-requires c κs = tt
 
 returns-2 : tie.Need-returns-2
 returns-2 c = c .sum-above .ensures ∙ not-reached _ _ _ (c .before .if1 .left)

@@ -49,10 +49,10 @@ mul-exceeds : tie.Need-mul-exceeds
 mul-exceeds c = search needs
 
 exceeds-requires : tie.Need-exceeds-requires
-exceeds-requires c κs = search needs
+exceeds-requires c κs = tt
 
 refusal-requires : tie.Need-refusal-requires
-refusal-requires c κs = search needs
+refusal-requires c κs = tt
 
 returns-2 : tie.Need-returns-2
 returns-2 c =
