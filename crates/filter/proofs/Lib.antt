@@ -18,6 +18,8 @@ pub mod PassCodeExact
 pub mod PassCodeChecks
 pub mod PassCodeApplied
 pub mod PreviewLaws
+pub mod ElementsShared
+pub mod PassCodeRow
 pub mod PassCodeSizes
 pub mod PassCodeWalk
 pub mod ElementsLaws

@@ -20,52 +20,52 @@ use Rattle.filter.specs.Image.{pixel}
 use Rattle.filter.specs.Walk.{turns, walkedAt, steps, Tallied}
 use Rattle.filter.specs.Window.{window}
 
-module _ (es : List ℕ) (w h : ℕ) (map : List ℕ) (r c v : ℕ) where
-  pub opened-stays : (pixel w map r c ≡ 0 → ⊥) → v ≡ cond (turns es w h map r c v) (1 - v) v
+module _ (es : List ℕ) (w h : ℕ) (codes : List ℕ) (r c v : ℕ) where
+  pub opened-stays : (pixel w codes r c ≡ 0 → ⊥) → v ≡ cond (turns es w h codes r c v) (1 - v) v
   unfolding turns
   opened-stays n = simp (ne-eqb _ _ n)
 
-  module _ {win : List (List ℕ)} {b : Bool} (z : pixel w map r c ≡ 0) (g : win ≡ window w h map r c) (m : b ≡ matched es win (2 - v)) where
-    pub matched-turns : b ≡ true → 1 - v ≡ cond (turns es w h map r c v) (1 - v) v
+  module _ {win : List (List ℕ)} {b : Bool} (z : pixel w codes r c ≡ 0) (g : win ≡ window w h codes r c) (m : b ≡ matched es win (2 - v)) where
+    pub matched-turns : b ≡ true → 1 - v ≡ cond (turns es w h codes r c v) (1 - v) v
     unfolding turns
     matched-turns e = simp (eq-eqb _ _ z, ← g, ← m, e)
 
-    pub unmatched-stays : b ≡ false → v ≡ cond (turns es w h map r c v) (1 - v) v
+    pub unmatched-stays : b ≡ false → v ≡ cond (turns es w h codes r c v) (1 - v) v
     unfolding turns
     unmatched-stays e = simp (eq-eqb _ _ z, ← g, ← m, e)
 
-module _ (es : List ℕ) (w h : ℕ) (px map : List ℕ) where
-  steps-le : (u v n : ℕ) → steps es w h px map u v n ≤ n
+module _ (es : List ℕ) (w h : ℕ) (px codes : List ℕ) where
+  steps-le : (u v n : ℕ) → steps es w h px codes u v n ≤ n
   unfolding steps
   steps-le u v n =
-      omega (arith, count-le (λ i. eqb (getD px i 0) u && eqb (walkedAt es w h px map (i / w) (i % w)) v) (upTo n), length-upTo n)
+      omega (arith, count-le (λ i. eqb (getD px i 0) u && eqb (walkedAt es w h px codes (i / w) (i % w)) v) (upTo n), length-upTo n)
 
-  pub tally-none : Tallied es w h px map 0 0 0
+  pub tally-none : Tallied es w h px codes 0 0 0
   unfolding steps upTo
   tally-none = record { added = refl; removed = refl }
 
   step-more : (u v r c : ℕ) → c < w
-      → steps es w h px map u v (r * w + (c + 1)) ≡ steps es w h px map u v (r * w + c) + one (eqb (pixel w px r c) u && eqb (walkedAt es w h px map r c) v)
+      → steps es w h px codes u v (r * w + (c + 1)) ≡ steps es w h px codes u v (r * w + c) + one (eqb (pixel w px r c) u && eqb (walkedAt es w h px codes r c) v)
   unfolding steps
   step-more u v r c l =
       ap (λ (n : ℕ). count p (upTo n)) next
       ∙ count-upTo p (r * w + c)
-      ∙ ap (λ (x : ℕ). count p (upTo (r * w + c)) + one (eqb (pixel w px r c) u && eqb x v)) (grid-at w (walkedAt es w h px map) r c l)
+      ∙ ap (λ (x : ℕ). count p (upTo (r * w + c)) + one (eqb (pixel w px r c) u && eqb x v)) (grid-at w (walkedAt es w h px codes) r c l)
     where
       p : ℕ → Bool
-      p i = eqb (getD px i 0) u && eqb (walkedAt es w h px map (i / w) (i % w)) v
+      p i = eqb (getD px i 0) u && eqb (walkedAt es w h px codes (i / w) (i % w)) v
 
       next : r * w + (c + 1) ≡ suc (r * w + c)
       next = omega arith
 
-  pub tally-more : (r : ℕ) {c a d x y v : ℕ} → Tallied es w h px map (r * w + c) a d → c < w → v ≡ walkedAt es w h px map r c
+  pub tally-more : (r : ℕ) {c a d x y v : ℕ} → Tallied es w h px codes (r * w + c) a d → c < w → v ≡ walkedAt es w h px codes r c
       → x ≡ one (eqb (pixel w px r c) 0 && eqb v 1) → y ≡ one (eqb (pixel w px r c) 1 && eqb v 0)
-      → Tallied es w h px map (r * w + (c + 1)) (a + x) (d + y)
+      → Tallied es w h px codes (r * w + (c + 1)) (a + x) (d + y)
   tally-more r {c} {a} {d} {x} {y} {v} s l e f g = record {
     added = omega (arith, step-more 0 1 r c l, s .added, f ∙ ap (λ (z : ℕ). one (eqb (pixel w px r c) 0 && eqb z 1)) e);
     removed = omega (arith, step-more 1 0 r c l, s .removed, g ∙ ap (λ (z : ℕ). one (eqb (pixel w px r c) 1 && eqb z 0)) e);
   }
 
-pub tally-le : {es : List ℕ} {w h : ℕ} {px map : List ℕ} {n a d : ℕ} → Tallied es w h px map n a d → (a ≤ n) × (d ≤ n)
-tally-le {es} {w} {h} {px} {map} {n} t =
-    (omega (arith, t .added, steps-le es w h px map 0 1 n), omega (arith, t .removed, steps-le es w h px map 1 0 n))
+pub tally-le : {es : List ℕ} {w h : ℕ} {px codes : List ℕ} {n a d : ℕ} → Tallied es w h px codes n a d → (a ≤ n) × (d ≤ n)
+tally-le {es} {w} {h} {px} {codes} {n} t =
+    (omega (arith, t .added, steps-le es w h px codes 0 1 n), omega (arith, t .removed, steps-le es w h px codes 1 0 n))

@@ -1,16 +1,18 @@
 -- One pass by the opening map (the module `walk`): what the code computes from pixels and map.
---     ranged t                     the table has a fitting count, and its elements are valid masks
---     Walkable es w h px map       what it asks: valid elements, an image, and a map of the same size
---     turns es w h map r c v       a pixel of value v changes: it is opened for neither value, and some element has the other value's
---                                  code, which is 2 − v, at all its offsets
---     walkedAt es w h px map r c   the pixel afterwards; walked es w h px map: the image
---     steps es w h px map u v n    how many of the first n pixels go from u to v
---     Tallied es w h px map n a d  of the first n pixels, a go from 0 to 1 and d from 1 to 0
+--     ranged t                       the table has a fitting count, and its elements are valid masks
+--     Walkable es w h px codes       what it asks: valid elements, an image, and a map of the same size
+--     Opened codes s lo hi           in the row that begins at s, the pixels from column lo to before hi are opened
+--     Copied px l lo hi              l has the pixels from lo to before hi
+--     turns es w h codes r c v       a pixel of value v changes: it is opened for neither value, and some element has the other value's
+--                                    code, which is 2 − v, at all its offsets
+--     walkedAt es w h px codes r c   the pixel afterwards; walked es w h px codes: the image
+--     steps es w h px codes u v n    how many of the first n pixels go from u to v
+--     Tallied es w h px codes n a d  of the first n pixels, a go from 0 to 1 and d from 1 to 0
 -- Assumes nothing.
 use mathlib.Core.Bool.{Bool, true, cond, _&&_}
 use mathlib.Core.List.{List}
 use mathlib.Core.Path.{_≡_}
-use Prim.Native.Nat.{ℕ, _-_, _*_, _/_, _%_}
+use Prim.Native.Nat.{ℕ, _+_, _-_, _*_, _/_, _%_, _≤_, _<_}
 use lib.Dec.{leb, eqb}
 use lib.ListN.{length, getD}
 use Rattle.filter.specs.Elements.{matched}
@@ -25,23 +27,29 @@ use Rattle.table.specs.Record.{maxElements, masks}
 unfoldable pub ranged : Table → Bool
 ranged t = leb (t .count) maxElements && all validMask (masks t)
 
-pub record Walkable (es : List ℕ) (w h : ℕ) (px map : List ℕ) : Type 0 where
+pub record Walkable (es : List ℕ) (w h : ℕ) (px codes : List ℕ) : Type 0 where
   pub valid : all validMask es ≡ true
   pub image : IsImage w h px
-  pub mapped : length map ≡ w * h
+  pub mapped : length codes ≡ w * h
+
+pub record Opened (codes : List ℕ) (s lo hi : ℕ) : Type 0 where
+  pub coded : (c : ℕ) → lo ≤ c → c < hi → getD codes (s + c) 0 ≡ 0 → ⊥
+
+pub record Copied (px l : List ℕ) (lo hi : ℕ) : Type 0 where
+  pub same : (j : ℕ) → lo ≤ j → j < hi → getD l j 0 ≡ getD px j 0
 
 unfoldable pub turns : List ℕ → ℕ → ℕ → List ℕ → ℕ → ℕ → ℕ → Bool
-turns es w h map r c v = eqb (pixel w map r c) 0 && matched es (window w h map r c) (2 - v)
+turns es w h codes r c v = eqb (pixel w codes r c) 0 && matched es (window w h codes r c) (2 - v)
 
 unfoldable pub walkedAt : List ℕ → ℕ → ℕ → List ℕ → List ℕ → ℕ → ℕ → ℕ
-walkedAt es w h px map r c = cond (turns es w h map r c (pixel w px r c)) (1 - pixel w px r c) (pixel w px r c)
+walkedAt es w h px codes r c = cond (turns es w h codes r c (pixel w px r c)) (1 - pixel w px r c) (pixel w px r c)
 
 unfoldable pub walked : List ℕ → ℕ → ℕ → List ℕ → List ℕ → List ℕ
-walked es w h px map = tab (λ i. walkedAt es w h px map (i / w) (i % w)) (w * h)
+walked es w h px codes = tab (λ i. walkedAt es w h px codes (i / w) (i % w)) (w * h)
 
 unfoldable pub steps : List ℕ → ℕ → ℕ → List ℕ → List ℕ → ℕ → ℕ → ℕ → ℕ
-steps es w h px map u v n = count (λ i. eqb (getD px i 0) u && eqb (walkedAt es w h px map (i / w) (i % w)) v) (upTo n)
+steps es w h px codes u v n = count (λ i. eqb (getD px i 0) u && eqb (walkedAt es w h px codes (i / w) (i % w)) v) (upTo n)
 
-pub record Tallied (es : List ℕ) (w h : ℕ) (px map : List ℕ) (n a d : ℕ) : Type 0 where
-  pub added : a ≡ steps es w h px map 0 1 n
-  pub removed : d ≡ steps es w h px map 1 0 n
+pub record Tallied (es : List ℕ) (w h : ℕ) (px codes : List ℕ) (n a d : ℕ) : Type 0 where
+  pub added : a ≡ steps es w h px codes 0 1 n
+  pub removed : d ≡ steps es w h px codes 1 0 n

@@ -95,31 +95,16 @@ fn blank() -> [u8; MAX_PIXELS] {
 fn check_sizes(width: usize, height: usize, pixels: usize, area: usize) -> Verdict
     ensures { λ r. ⌜ r ≡ sizeVerdict width height pixels area ⌝ }
 {
-    if !is_side(width) {
-        return refused(verdict::SIZE_RANGE);
-    }
-    if !is_side(height) {
-        return refused(verdict::SIZE_RANGE);
+    if image::size::is_bad(width, height) {
+        return verdict::refused(verdict::SIZE_RANGE, 0);
     }
     if pixels != width * height {
-        return refused(verdict::RASTER_LENGTH);
+        return verdict::refused(verdict::RASTER_LENGTH, 0);
     }
     if area < width * height {
-        return refused(verdict::AREA_SHORT);
+        return verdict::refused(verdict::AREA_SHORT, 0);
     }
     Verdict::Accepted
-}
-
-fn is_side(n: usize) -> bool
-    ensures { λ r. ⌜ r ≡ within maxSide n ⌝ }
-{
-    1 <= n && n <= MAX_SIDE
-}
-
-fn refused(number: u32) -> Verdict
-    ensures { λ r. ⌜ r ≡ Verdict.Refused (refusal number 0) ⌝ }
-{
-    Verdict::Refused(Refusal { number, place: 0 })
 }
 
 fn is_ranged(table: Table) -> bool

@@ -1,11 +1,12 @@
 // The element test on a window: some element has the wanted value at all its positions.
+use crate::opening;
 ghost use mathlib.Core.Bool.{true};
 ghost use mathlib.Core.Path.{_≡_};
 ghost use Prim.Native.Nat.{ℕ, _≤_, _<_};
 ghost use lib.Bits.{bitAnd};
 ghost use lib.Dec.{eqb};
 ghost use lib.ListN.{getD};
-ghost use Rattle.filter.specs.Elements.{matched};
+ghost use Rattle.filter.specs.Elements.{matched, Shared};
 ghost use Rattle.filter.specs.Preview.{fromBits};
 ghost use Rattle.filter.specs.Window.{windowAt};
 ghost use Rattle.seq.specs.Bits.{bit};
@@ -15,6 +16,11 @@ ghost use Rattle.table.specs.Mask.{validMask};
 
 // A row's bits stand below the next row's.
 const ROW: u32 = 32;
+
+// The positions of a window are the numbers below.
+pub(crate) const POSITIONS: usize = 25;
+
+const LARGEST_MASK: u32 = 33554431;
 
 // The window becomes the mask of the positions that have the wanted value, and each element is compared with it.
 pub(crate) fn some_matches(elements: &[u32], win: [[u8; 5]; 5], wanted: u8) -> bool
@@ -26,6 +32,34 @@ pub(crate) fn some_matches(elements: &[u32], win: [[u8; 5]; 5], wanted: u8) -> b
         return false;
     }
     some_within(elements, mask)
+}
+
+// A position that every element has, so that none matches where it has another value than the wanted one; 25 where there is none.
+pub(crate) fn shared_position(elements: &[u32]) -> usize
+    ensures { λ r. ⌜ Shared (now (elements .entry)) r ⌝ }
+{
+    let mask = shared(elements);
+    let mut n = 0;
+    while n < POSITIONS {
+        if opening::has(mask, n) {
+            return n;
+        }
+        n += 1;
+    }
+    POSITIONS
+}
+
+// The positions that every element has.
+fn shared(elements: &[u32]) -> u32
+    ensures { λ r. ⌜ ((n : ℕ) → bit r n ≡ true → all (λ e. bit e n) (now (elements .entry)) ≡ true) ⌝ }
+{
+    let mut mask = LARGEST_MASK;
+    let mut i = 0;
+    while i < elements.len() {
+        mask = mask & elements[i];
+        i += 1;
+    }
+    mask
 }
 
 fn some_within(elements: &[u32], mask: u32) -> bool

@@ -141,7 +141,7 @@ fn erode(mask: u32, step: usize, reach: usize, framed: &[u8], out: &mut [u8])
     }
 }
 
-fn has(mask: u32, position: usize) -> bool
+pub(crate) fn has(mask: u32, position: usize) -> bool
     requires { ⌜ position < places ⌝ }
     ensures { λ r. ⌜ r ≡ bit mask position ⌝ }
 {
@@ -206,7 +206,7 @@ fn unframe(width: usize, height: usize, framed: &[u8], map: &mut [u8])
     }
 }
 
-fn copy(source: &[u8], from: usize, out: &mut [u8], to: usize, count: usize)
+pub(crate) fn copy(source: &[u8], from: usize, out: &mut [u8], to: usize, count: usize)
     requires { ⌜ (from + count ≤ length (now source)) × (to + count ≤ length (now out)) ⌝ }
     ensures { λ r. ⌜ Swept (λ j. getD (now (source .entry)) (from + (j - to)) 0) (now (out .entry)) (now (out .exit)) to (to + count) ⌝ }
 {

@@ -1,15 +1,18 @@
 // One pass by the opening map. All pixels are judged on the image before the pass: only `next` is written.
 use crate::elements;
+use crate::opening;
 use crate::window;
-ghost use mathlib.Core.Bool.{true, cond, _&&_};
+ghost use mathlib.Core.Bool.{true, false, cond, _&&_};
 ghost use mathlib.Core.Path.{_≡_};
 ghost use Prim.Native.Nat.{_+_, _-_, _*_, _≤_, _<_};
 ghost use lib.Dec.{eqb};
-ghost use lib.ListN.{length};
-ghost use lib.Seq.{sets};
-ghost use Rattle.filter.specs.Walk.{Walkable, turns, walkedAt, walked, Tallied};
+ghost use lib.ListN.{length, getD};
+ghost use Rattle.filter.specs.Elements.{Shared};
+ghost use Rattle.filter.specs.Image.{pixel};
+ghost use Rattle.filter.specs.Walk.{Walkable, Opened, Copied, turns, walkedAt, walked, Tallied};
+ghost use Rattle.filter.specs.Window.{siteRow, siteCol};
 ghost use Rattle.seq.specs.Lists.{all, one};
-ghost use Rattle.seq.specs.Tab.{tab};
+ghost use Rattle.seq.specs.Loops.{Swept};
 ghost use Rattle.table.specs.Mask.{validMask};
 ghost use Rattle.verdict.specs.Writer.{over};
 
@@ -41,20 +44,34 @@ pub(crate) fn walk(
     ensures { λ r. ⌜ (now (next .exit) ≡ over (walked (now (elements .entry)) width height (now (pixels .entry)) (now (map .entry))) (now (next .entry)))
         × Tallied (now (elements .entry)) width height (now (pixels .entry)) (now (map .entry)) (width * height) (r .added) (r .removed) ⌝ }
 {
+    opening::copy(pixels, 0, next, 0, width * height);
+    let shared = elements::shared_position(elements);
     let mut tally = Tally {
         added: 0,
         removed: 0,
     };
     let mut row = 0;
     while row < height {
-        tally = walk_row(elements, width, height, pixels, map, row, next, tally);
+        tally = walk_row(
+            elements,
+            shared,
+            width,
+            height,
+            pixels,
+            map,
+            row,
+            next,
+            tally,
+        );
         row += 1;
     }
     tally
 }
 
+// An opened pixel never changes, so only others are judged. The row of `next` holds the pixels as they were.
 fn walk_row(
     elements: &[u32],
+    shared: usize,
     width: usize,
     height: usize,
     pixels: &[u8],
@@ -64,31 +81,54 @@ fn walk_row(
     before: Tally,
 ) -> Tally
     requires { ⌜ Walkable (now elements) width height (now pixels) (now map) × (row < height) × (row * width + width ≤ length (now next))
+        × Shared (now elements) shared × Copied (now pixels) (now next) (row * width) (row * width + width)
         × Tallied (now elements) width height (now pixels) (now map) (row * width) (before .added) (before .removed) ⌝ }
-    ensures { λ r. ⌜ (now (next .exit)
-        ≡ sets (now (next .entry)) (row * width)
-        (tab (walkedAt (now (elements .entry)) width height (now (pixels .entry)) (now (map .entry)) row) width))
+    ensures { λ r. ⌜ Swept (λ j. walkedAt (now (elements .entry)) width height (now (pixels .entry)) (now (map .entry)) row (j - row * width))
+        (now (next .entry)) (now (next .exit)) (row * width) (row * width + width)
         × Tallied (now (elements .entry)) width height (now (pixels .entry)) (now (map .entry)) (row * width + width) (r .added) (r .removed) ⌝ }
 {
     let start = row * width;
+    if is_opened(map, start, width) {
+        return before;
+    }
     let mut added = before.added;
     let mut removed = before.removed;
     let mut col = 0;
     while col < width {
         let at = start + col;
-        let value = pixels[at];
-        let after = judged(elements, width, height, map, row, col, value);
-        next[at] = after;
-        added += is_step(value, after, WHITE, BLACK);
-        removed += is_step(value, after, BLACK, WHITE);
+        if map[at] == NEITHER {
+            let value = pixels[at];
+            let after = judged(elements, shared, width, height, map, row, col, value);
+            next[at] = after;
+            added += is_step(value, after, WHITE, BLACK);
+            removed += is_step(value, after, BLACK, WHITE);
+        }
         col += 1;
     }
     Tally { added, removed }
 }
 
-// The pixel afterwards. An opened pixel never changes, so only others are tested.
+// Whether every pixel of the row that begins at `start` is opened: then the least value of the map there is not 0.
+fn is_opened(map: &[u8], start: usize, width: usize) -> bool
+    requires { ⌜ start + width ≤ length (now map) ⌝ }
+    ensures { λ r. ⌜ (r ≡ true → Opened (now (map .entry)) start 0 width) ⌝ }
+{
+    let mut least = OPENED_BLACK;
+    let mut col = 0;
+    while col < width {
+        let code = map[start + col];
+        if code < least {
+            least = code;
+        }
+        col += 1;
+    }
+    least != NEITHER
+}
+
+// The pixel afterwards, where it is opened for neither value.
 fn judged(
     elements: &[u32],
+    shared: usize,
     width: usize,
     height: usize,
     map: &[u8],
@@ -96,17 +136,38 @@ fn judged(
     col: usize,
     value: u8,
 ) -> u8
-    requires { ⌜ (all validMask (now elements) ≡ true) × (length (now map) ≡ width * height) × (row < height) × (col < width) × (value ≤ 1) ⌝ }
+    requires { ⌜ (all validMask (now elements) ≡ true) × (length (now map) ≡ width * height) × (row < height) × (col < width) × (value ≤ 1)
+        × (pixel width (now map) row col ≡ 0) × Shared (now elements) shared ⌝ }
     ensures { λ r. ⌜ r ≡ cond (turns (now (elements .entry)) width height (now (map .entry)) row col value) (1 - value) value ⌝ }
 {
-    if map[row * width + col] != NEITHER {
+    let wanted = OPENED_BLACK - value;
+    if is_missed(map, width, height, row, col, shared, wanted) {
         return value;
     }
     let win = window::gather(map, width, height, row, col);
-    if elements::some_matches(elements, win, OPENED_BLACK - value) {
+    if elements::some_matches(elements, win, wanted) {
         return BLACK - value;
     }
     value
+}
+
+// Whether the position that every element has, if there is one, has another value than the wanted one.
+fn is_missed(
+    map: &[u8],
+    width: usize,
+    height: usize,
+    row: usize,
+    col: usize,
+    shared: usize,
+    wanted: u8,
+) -> bool
+    requires { ⌜ (length (now map) ≡ width * height) × (row < height) × (col < width) ⌝ }
+    ensures { λ r. ⌜ (r ≡ true → (shared < 25) × (eqb (pixel width (now (map .entry)) (siteRow height row shared) (siteCol width col shared)) wanted ≡ false)) ⌝ }
+{
+    if elements::POSITIONS <= shared {
+        return false;
+    }
+    window::at(map, width, height, row, col, shared) != wanted
 }
 
 fn is_step(value: u8, after: u8, from: u8, to: u8) -> usize

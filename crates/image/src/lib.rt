@@ -7,7 +7,6 @@ use verdict::Written;
 ghost use mathlib.Core.Path.{_≡_};
 ghost use lib.ListN.{length};
 ghost use Rattle.image.specs.File.{imageRead, imageArea, pixelVerdict, imageWritten, imageOutput};
-ghost use Rattle.verdict.specs.Rules.{refusal};
 
 mod header;
 mod layout;
@@ -15,7 +14,7 @@ mod number;
 mod pack;
 mod pixels;
 mod raster;
-mod size;
+pub mod size;
 mod unpack;
 
 // The size of the image read, or the refusal.
@@ -54,18 +53,12 @@ pub fn check_pixels(width: usize, height: usize, pixels: &[u8]) -> Verdict
     ensures { λ r. ⌜ r ≡ pixelVerdict width height (now (pixels .entry)) ⌝ }
 {
     if size::is_bad(width, height) {
-        return refused(verdict::SIZE_RANGE);
+        return verdict::refused(verdict::SIZE_RANGE, 0);
     }
     if pixels.len() != width * height {
-        return refused(verdict::RASTER_LENGTH);
+        return verdict::refused(verdict::RASTER_LENGTH, 0);
     }
     pixels::check_values(pixels, width, height)
-}
-
-fn refused(number: u32) -> Verdict
-    ensures { λ r. ⌜ r ≡ Verdict.Refused (refusal number 0) ⌝ }
-{
-    Verdict::Refused(Refusal { number, place: 0 })
 }
 
 // Writes the file of an image to the front of an output: 10, 11, 12, then 13. All is judged before the first byte is stored.

@@ -7,7 +7,7 @@ const MAX_SIDE: usize = 256;
 
 pub(crate) const BYTE_PIXELS: usize = 8;
 
-pub(crate) fn is_bad(width: usize, height: usize) -> bool
+pub fn is_bad(width: usize, height: usize) -> bool
     ensures { λ r. ⌜ r ≡ badSize width height ⌝ }
 {
     if !is_within(MAX_SIDE, width) {

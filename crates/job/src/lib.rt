@@ -48,13 +48,13 @@ pub fn load_core(job: Job, table: Table, file: &[u8], first: &mut [u8], second: 
 {
     if sound::unsound(job, first, second) {
         return Loaded {
-            answer: sound::refused(verdict::UNSOUND),
+            answer: verdict::refused(verdict::UNSOUND, 0),
             job,
         };
     }
     if job.stage != sound::EMPTY {
         return Loaded {
-            answer: sound::refused(verdict::NOT_COLLECTED),
+            answer: verdict::refused(verdict::NOT_COLLECTED, 0),
             job,
         };
     }

@@ -8,7 +8,6 @@ ghost use mathlib.Core.Path.{_≡_};
 ghost use Prim.Native.Nat.{_+_};
 ghost use lib.Dec.{eqb, ltb};
 ghost use Rattle.history.specs.State.{readyVerdict};
-ghost use Rattle.image.specs.Size.{within, badSize};
 ghost use Rattle.job.specs.Core.{at};
 ghost use Rattle.seq.specs.Lists.{any, all};
 ghost use Rattle.verdict.specs.Rules;
@@ -28,18 +27,12 @@ pub(crate) fn ready<'a>(job: Job, first: &'a [u8], second: &'a [u8]) -> Verdict
     ensures { λ r. ⌜ r ≡ readyVerdict (at job (now (first .entry)) (now (second .entry))) ⌝ }
 {
     if unsound(job, first, second) {
-        return refused(verdict::UNSOUND);
+        return verdict::refused(verdict::UNSOUND, 0);
     }
     if job.stage == EMPTY {
-        return refused(verdict::NOTHING_LOADED);
+        return verdict::refused(verdict::NOTHING_LOADED, 0);
     }
     Verdict::Accepted
-}
-
-pub(crate) fn refused(number: u32) -> Verdict
-    ensures { λ r. ⌜ r ≡ Verdict.Refused (Rules.refusal number 0) ⌝ }
-{
-    Verdict::Refused(Refusal { number, place: 0 })
 }
 
 // Refused because of the state: place 0 always.
@@ -67,7 +60,7 @@ pub(crate) fn unsound<'a>(job: Job, first: &'a [u8], second: &'a [u8]) -> bool
 fn inconsistent<'a>(job: Job, first: &'a [u8], second: &'a [u8]) -> bool
     ensures { λ r. ⌜ r ≡ Rattle.history.specs.State.inconsistent (at job (now (first .entry)) (now (second .entry))) ⌝ }
 {
-    if bad_size(job.width, job.height) {
+    if image::size::is_bad(job.width, job.height) {
         return true;
     }
     let table = job.table;
@@ -88,21 +81,6 @@ fn inconsistent<'a>(job: Job, first: &'a [u8], second: &'a [u8]) -> bool
         return true;
     }
     sum_above(pixels, job.added, job.removed)
-}
-
-fn bad_size(width: usize, height: usize) -> bool
-    ensures { λ r. ⌜ r ≡ badSize width height ⌝ }
-{
-    if !within(width) {
-        return true;
-    }
-    !within(height)
-}
-
-fn within(side: usize) -> bool
-    ensures { λ r. ⌜ r ≡ Rattle.image.specs.Size.within 256 side ⌝ }
-{
-    1 <= side && side <= MAX_SIDE
 }
 
 // Stage 0 with a nonzero field. The join of the numbers is 0 exactly when each of them is.

@@ -33,13 +33,13 @@ pub fn check(table: Table) -> Verdict
     ensures { λ r. ⌜ r ≡ recordVerdict table ⌝ }
 {
     if record::bad_count(table.count) {
-        return record::refused(verdict::ELEMENT_COUNT, 0);
+        return verdict::refused(verdict::ELEMENT_COUNT, 0);
     }
     if let Search::Found(k) = record::first_bad_place(table) {
-        return record::refused(verdict::ELEMENT_RANGE, k + 1);
+        return verdict::refused(verdict::ELEMENT_RANGE, k + 1);
     }
     if !mask::valid(table.persistent) {
-        return record::refused(verdict::PERSISTENT_RANGE, table.count + 1);
+        return verdict::refused(verdict::PERSISTENT_RANGE, table.count + 1);
     }
     record::relations(table)
 }

@@ -28,7 +28,7 @@ pub(crate) fn refused(number: u32, place: usize) -> TableRead
     ensures { λ r. ⌜ r ≡ readAs (the-verdict.Refused (refusal number place)) zeroTable ⌝ }
 {
     TableRead {
-        verdict: record::refused(number, place),
+        verdict: verdict::refused(number, place),
         table: Table {
             count: 0,
             elements: [0; 64],
@@ -67,7 +67,7 @@ fn read_elements(file: &[u8], count: usize, at: usize) -> Elements
         match number::read_at(file, next) {
             NumberRead::Refused(number) => {
                 return Elements {
-                    verdict: record::refused(number, k + 1),
+                    verdict: verdict::refused(number, k + 1),
                     elements,
                     at: next,
                 };
@@ -75,7 +75,7 @@ fn read_elements(file: &[u8], count: usize, at: usize) -> Elements
             NumberRead::Number(element, past) => {
                 if mask::bad_after(before, element) {
                     return Elements {
-                        verdict: record::refused(verdict::ELEMENT_RANGE, k + 1),
+                        verdict: verdict::refused(verdict::ELEMENT_RANGE, k + 1),
                         elements,
                         at: next,
                     };

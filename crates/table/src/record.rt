@@ -2,7 +2,6 @@
 use crate::Table;
 use crate::mask;
 use crate::mask::Search;
-use verdict::Refusal;
 use verdict::Verdict;
 ghost use mathlib.Core.Path.{_≡_};
 ghost use Prim.Native.Nat.{_<_, _^_};
@@ -11,16 +10,9 @@ ghost use Rattle.seq.specs.Lists.{isSome};
 ghost use Rattle.seq.specs.Tab.{first};
 ghost use Rattle.table.specs.Record.{badPlace, disjointFrom, missing, meetRule, persistRule};
 ghost use Rattle.table.specs.Search.{found, badNumber, lowestBad, InRange};
-ghost use Rattle.verdict.specs.Rules.{refusal, orElse};
-ghost use Rattle.verdict.specs.declared.Verdict.the-variants.{Refused};
+ghost use Rattle.verdict.specs.Rules.{orElse};
 
 const MAX_ELEMENTS: usize = 64;
-
-pub(crate) fn refused(number: u32, place: usize) -> Verdict
-    ensures { λ r. ⌜ r ≡ Refused (refusal number place) ⌝ }
-{
-    Verdict::Refused(Refusal { number, place })
-}
 
 // Rule 3.
 pub(crate) fn bad_count(count: usize) -> bool
@@ -63,10 +55,10 @@ pub(crate) fn relations(table: Table) -> Verdict
     ensures { λ r. ⌜ r ≡ orElse (meetRule table) (persistRule table) ⌝ }
 {
     if let Search::Found(k) = first_disjoint(table) {
-        return refused(verdict::ELEMENTS_DISJOINT, k + 1);
+        return verdict::refused(verdict::ELEMENTS_DISJOINT, k + 1);
     }
     if let Search::Found(k) = first_missing(table) {
-        return refused(verdict::NOT_PERSISTENT, k + 1);
+        return verdict::refused(verdict::NOT_PERSISTENT, k + 1);
     }
     Verdict::Accepted
 }

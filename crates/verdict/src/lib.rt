@@ -1,4 +1,6 @@
 // What a check or a writer answers, and 01's refusal numbers by name.
+ghost use mathlib.Core.Path.{_≡_};
+ghost use Rattle.verdict.specs.Rules.{refusal};
 
 // A refusal: number and place.
 pub struct Refusal {
@@ -15,6 +17,12 @@ pub enum Verdict {
 pub enum Written {
     Length(usize),
     Refused(Refusal),
+}
+
+pub fn refused(number: u32, place: usize) -> Verdict
+    ensures { λ r. ⌜ r ≡ Verdict.Refused (refusal number place) ⌝ }
+{
+    Verdict::Refused(Refusal { number, place })
 }
 
 pub const NUMBER_ENDS: u32 = 1;

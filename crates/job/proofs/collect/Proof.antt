@@ -49,8 +49,6 @@ use denote.Enum.Laws as EL
 use Rattle.job.specs.Core.{at as the-at}
 use Rattle.history.specs.Collect.{collectWritten, collectOutput, collectState}
 use Rattle.job.specs.Core.{at as the-at, emptied}
-use Rattle.job.specs.Core.{at as the-at}
-use Rattle.job.specs.Core.{at as the-at}
 use Rattle.history.specs.declared.Job.{Job as Rec}
 use Rattle.history.proofs.Job as T
 use Rattle.history.proofs.Job.Laws as T′

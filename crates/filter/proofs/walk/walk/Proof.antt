@@ -1,31 +1,38 @@
--- `filter::walk::walk` meets its contract. Assumes nothing.
-use Prim.Native.Nat.{_-_, _*_}
-use native.Mathlib.Nat.{zero-mul, mul-comm, le-antisymm}
+-- `filter::walk::walk` meets its contract. The loop's invariant: the rows before `row` are judged and counted. Assumes nothing.
+use mathlib.Core.Path.{_∙_}
+use Prim.Native.Nat.{_-_}
+use native.Mathlib.Omega.{arith}
 use borrow.Author.Needs.{needs}
-use Rattle.seq.proofs.Grid.{next-row}
-use Rattle.seq.proofs.Rows.{Rowed, rowed-none, rowed-more, rowed-length, rowed-room}
-use Rattle.filter.specs.Walk.{walkedAt, walked, Tallied}
-use Rattle.filter.proofs.PassCodeWalk.{tally-none}
-use Rattle.filter.proofs.WindowLaws.{rowed-over}
+use Rattle.filter.proofs.PassCodeRow.{Walked, walked-none, walked-more, walked-copied, walked-room, walked-all}
 use Rattle.filter.proofs.walk.walk.Statement.{statement}
 use Rattle.filter.proofs.walk.walk.Tie as tie
 
 abbrev Inv-loop : tie.InvT-loop
-Inv-loop elements width height pixels map next₀ tally₀ row₀ next tally row =
-    Rowed width height (walkedAt elements width height pixels map) next₀ next row
-    × Tallied elements width height pixels map (row * width) (tally .added) (tally .removed)
+Inv-loop elements width height pixels map next₀ shared tally₀ row₀ next tally row =
+    Walked elements width height pixels map next₀ next row (tally .added) (tally .removed)
 
 abbrev μ-loop : tie.MeasureT-loop
-μ-loop elements width height pixels map next₀ tally₀ row₀ next tally row = height - row
+μ-loop elements width height pixels map next₀ shared tally₀ row₀ next tally row = height - row
+
+mul-copy : tie.Need-mul-copy Inv-loop μ-loop
+mul-copy c = search needs
+
+copy-requires : tie.Need-copy-requires Inv-loop μ-loop
+copy-requires c κs = let p = c .before .before .before .before .before .pre in (omega (arith, p .0 .image .sized), omega (arith, p .1))
+
+shared-position-requires : tie.Need-shared-position-requires Inv-loop μ-loop
+shared-position-requires c κs = search needs
 
 loop-holds : tie.Need-loop-holds Inv-loop μ-loop
-loop-holds c = (rowed-none (search needs), rw zero-mul (tally-none _ _ _ _ _))
+loop-holds c = walked-none _ _ _ _ _ _
 
 walk-row-requires : tie.Need-walk-row-requires Inv-loop μ-loop
 walk-row-requires c κs =
-    let l = c .before .before in
+    let p = c .before .before .before .before .before .before .before .before .before .before .before .before .pre in
+    let k = c .before .before .before .before .before .before .copy .ensures in
+    let s = c .before .before .loop .inv in
     let t = c .before .loop-test .taken in
-    (l .before .before .before .before .before .pre .0, t, rowed-room (l .loop .inv .0) t, l .loop .inv .1)
+    (p .0, t, walked-room _ _ _ _ _ k s t (p .1), c .before .before .before .shared-position .ensures, walked-copied _ _ _ _ _ k s t, s .tallied)
 
 add-row : tie.Need-add-row Inv-loop μ-loop
 add-row c = search needs
@@ -35,20 +42,14 @@ loop-less c = search needs
 
 loop-again : tie.Need-loop-again Inv-loop μ-loop
 loop-again c =
-    let f = c .before .before in (
-      rowed-more (f .before .before .before .loop .inv .0) (f .before .before .loop-test .taken) (f .walk-row .ensures .0),
-      rw (next-row _ _) at (f .walk-row .ensures .1),
-    )
+    let f = c .before .before in
+    walked-more _ _ _ _ _ (f .before .before .before .loop .inv) (f .before .before .loop-test .taken) (f .walk-row .ensures .0) (f .walk-row .ensures .1)
 
 same-length : tie.Need-same-length Inv-loop μ-loop
-same-length c = rowed-length (c .before .loop .inv .0)
+same-length c = c .before .loop .inv .swept .long ∙ c .before .before .before .before .before .copy .ensures .long
 
 returns : tie.Need-returns Inv-loop μ-loop
-unfolding walked
-returns c = (
-  rowed-over (c .before .loop .inv .0) (c .loop-test .left),
-  rw (le-antisymm (c .before .loop .inv .0 .within) (c .loop-test .left), mul-comm) at (c .before .loop .inv .1),
-)
+returns c = walked-all _ _ _ _ _ (c .before .before .before .before .before .copy .ensures) (c .before .loop .inv) (c .loop-test .left) (c .before .before .before .before .before .before .before .before .before .before .before .pre .1)
 
 pub walk-spec : {M : Type 1} → statement M
 walk-spec =
@@ -56,6 +57,9 @@ walk-spec =
     (tie.spec
     Inv-loop
     μ-loop
+    mul-copy
+    copy-requires
+    shared-position-requires
     loop-holds
     walk-row-requires
     add-row

@@ -1,73 +1,85 @@
--- `filter::walk::walk_row` meets its contract. Assumes nothing.
+-- `filter::walk::walk_row` meets its contract. The loop's invariant: the columns before `col` are judged.
+-- Assumes nothing.
+use mathlib.Core.Logic.{⊎-elim}
 use Prim.Native.Nat.{_+_, _-_, _*_, _≤_, _<_, zero-le}
-use native.Mathlib.Nat.{add-zero, le-antisymm}
+use native.Mathlib.Nat.{le-antisymm}
 use native.Mathlib.Omega.{arith}
 use borrow.Author.Needs.{needs}
 use lib.ListN.{length}
-use Rattle.seq.proofs.Grid.{cell-below}
-use Rattle.seq.proofs.Stores.{Stored, stored-none, stored-more, stored-length, stored-all}
-use Rattle.filter.specs.Walk.{walkedAt, Tallied}
-use Rattle.filter.proofs.PassCodeWalk.{tally-more, tally-le}
+use Rattle.seq.proofs.Grid.{cell-below, row-below, next-row}
+use Rattle.filter.specs.Walk.{walkedAt}
+use Rattle.filter.proofs.PassCodeRow.{opened-none, opened-more, Judged, judged-none, judged-skip, judged-more}
+use Rattle.filter.proofs.PassCodeWalk.{tally-le}
 use Rattle.filter.proofs.WindowLaws.{binary-at}
 use Rattle.filter.proofs.walk.walk_row.Statement.{statement}
 use Rattle.filter.proofs.walk.walk_row.Tie as tie
-use Rattle.filter.proofs.walk.walk_row.Reads as reads
-use Rattle.filter.proofs.walk.walk_row.Lts as lts
-use Rattle.filter.proofs.walk.is_step.Reads as is-step-reads
-use Rattle.filter.proofs.walk.judged.Reads as judged-reads
 
 abbrev Inv-loop : tie.InvT-loop
-Inv-loop elements width height pixels map row next₀ start added₀ removed₀ col₀ next added removed col =
-    (col ≤ width)
-    × Stored (walkedAt elements width height pixels map row) next₀ start next col
-    × Tallied elements width height pixels map (start + col) added removed
+Inv-loop elements shared width height pixels map row next₀ start added₀ removed₀ col₀ next added removed col =
+    (col ≤ width) × Judged elements width height pixels map row next₀ next col added removed
 
 abbrev μ-loop : tie.MeasureT-loop
-μ-loop elements width height pixels map row next₀ start added₀ removed₀ col₀ next added removed col = width - col
+μ-loop elements shared width height pixels map row next₀ start added₀ removed₀ col₀ next added removed col = width - col
 
--- the pixel at hand lies within the image, and has the value 0 or 1
-within : (c : tie.In-loop Inv-loop μ-loop)
-    → c .before .before .before .before .before .before .args .row * c .before .before .before .before .before .before .args .width + c .before .loop .col
-    < length (c .before .before .before .before .before .before .args .pixels .now)
-within c = let p = c .before .before .before .before .before .before .pre in rw (p .0 .image .sized) (cell-below (p .1) (c .loop-test .taken))
+-- the row lies within the map
+room : (c : tie.Start Inv-loop μ-loop) → c .args .row * c .args .width + c .args .width ≤ length (c .args .map .now)
+room c = omega (arith, row-below (c .args .width) (c .pre .1), next-row (c .args .row) (c .args .width), c .pre .0 .mapped)
+
+-- the pixel at hand lies within image and map
+cell : (c : tie.In-loop Inv-loop μ-loop) → c .before .before .before .before .before .before .before .before .args .row * c .before .before .before .before .before .before .before .before .args .width + c .before .loop .col < c .before .before .before .before .before .before .before .before .args .width * c .before .before .before .before .before .before .before .before .args .height
+cell c = cell-below (c .before .before .before .before .before .before .before .before .pre .1) (c .loop-test .taken)
 
 mul-start : tie.Need-mul-start Inv-loop μ-loop
 mul-start c = search needs
 
+is-opened-requires : tie.Need-is-opened-requires Inv-loop μ-loop
+is-opened-requires c κs = room (c .before .before .before .before)
+
+returns : tie.Need-returns Inv-loop μ-loop
+returns c =
+    let p = c .before .before .before .before .before .before .pre in
+    let j = judged-skip _ _ _ _ _ _ (judged-none _ _ _ _ _ _ _ (p .5)) (p .4) zero-le (omega arith) (c .before .is-opened .ensures (c .if1 .taken)) in
+    (j .swept, j .tallied)
+
 loop-holds : tie.Need-loop-holds Inv-loop μ-loop
-loop-holds c = (zero-le, stored-none _ _ _, rw (add-zero) (c .before .before .before .before .pre .3))
+loop-holds c = (zero-le, judged-none _ _ _ _ _ _ _ (c .before .before .before .before .before .before .pre .5))
 
 add-at : tie.Need-add-at Inv-loop μ-loop
 add-at c = search needs
 
+shared-slice-read-if2 : tie.Need-shared-slice-read-if2 Inv-loop μ-loop
+shared-slice-read-if2 c = rw (c .before .before .before .before .before .before .before .before .before .pre .0 .mapped) (cell (c .before))
+
 shared-slice-read-value : tie.Need-shared-slice-read-value Inv-loop μ-loop
-shared-slice-read-value c = within (c .before)
+shared-slice-read-value c = rw (c .before .before .before .before .before .before .before .before .before .before .before .pre .0 .image .sized) (cell (c .before .before .before))
 
 judged-requires : tie.Need-judged-requires Inv-loop μ-loop
 judged-requires c κs =
-    let s = c .before .before .before .before .before .before .before in
+    let s = c .before .before .before .before .before .before .before .before .before .before .before in
     let p = s .pre in (
       p .0 .valid,
       p .0 .mapped,
       p .1,
-      c .before .loop-test .taken,
-      binary-at (s .args .pixels .now) (s .args .row * s .args .width + c .before .before .loop .col) (p .0 .image .binary),
+      c .before .before .before .loop-test .taken,
+      binary-at (s .args .pixels .now) (s .args .row * s .args .width + c .before .before .before .before .loop .col) (p .0 .image .binary),
+      c .before .if2 .taken,
+      p .3,
     )
 
 slice-write-next : tie.Need-slice-write-next Inv-loop μ-loop
-slice-write-next c = omega (arith, stored-length (c .before .before .before .loop .inv .1))
+slice-write-next c = omega (arith, c .before .before .before .before .before .loop .inv .1 .swept .long)
 
 is-step-requires : tie.Need-is-step-requires Inv-loop μ-loop
 is-step-requires c κs = search needs
 
 add-added : tie.Need-add-added Inv-loop μ-loop
-add-added c = omega (arith, tally-le (c .before .before .before .before .loop .inv .2))
+add-added c = omega (arith, tally-le (c .before .before .before .before .before .before .loop .inv .1 .tallied), cell (c .before .before .before .before .before), c .before .before .before .before .before .before .before .before .before .before .before .before .before .pre .0 .mapped)
 
 is-step-requires-2 : tie.Need-is-step-requires-2 Inv-loop μ-loop
 is-step-requires-2 c κs = search needs
 
 add-removed : tie.Need-add-removed Inv-loop μ-loop
-add-removed c = omega (arith, tally-le (c .before .before .before .before .before .loop .inv .2))
+add-removed c = omega (arith, tally-le (c .before .before .before .before .before .before .before .loop .inv .1 .tallied), cell (c .before .before .before .before .before .before), c .before .before .before .before .before .before .before .before .before .before .before .before .before .before .pre .0 .mapped)
 
 add-col : tie.Need-add-col Inv-loop μ-loop
 add-col c = search needs
@@ -78,20 +90,24 @@ loop-less c = search needs
 loop-again : tie.Need-loop-again Inv-loop μ-loop
 unfolding walkedAt
 loop-again c =
-    let l = c .before .before .before .before .before in
-    let t = c .before .before .before .before .loop-test .taken in (
+    let p = c .before .before .before .before .before .before .before .before .before .before .pre in
+    let j = c .before .before .before .loop .inv .1 in
+    let t = c .before .before .loop-test .taken in (
       search needs,
-      stored-more (l .loop .inv .1) (c .before .before .judged .ensures),
-      tally-more _ _ _ _ _ _ (l .loop .inv .2) t (c .before .before .judged .ensures) (c .before .is-step .ensures .0) (c .is-step2 .ensures .0),
+      ⊎-elim
+          (λ w. rw (w .5, w .6, w .7) (judged-more _ _ _ _ _ _ j t (p .2) (w .2 .ensures) (w .3 .ensures .0) (w .4 .ensures .0)))
+          (λ w. rw (w .1, w .2, w .3) (judged-skip _ _ _ _ _ _ j (p .4) (omega arith) (omega arith) (opened-more (opened-none _) (w .0 .left))))
+          (c .if2 .came),
     )
 
 same-length : tie.Need-same-length Inv-loop μ-loop
-same-length c = stored-length (c .before .loop .inv .1)
+same-length c = c .before .loop .inv .1 .swept .long
 
-returns : tie.Need-returns Inv-loop μ-loop
-returns c =
+returns-2 : tie.Need-returns-2 Inv-loop μ-loop
+returns-2 c =
     let e = le-antisymm (c .before .loop .inv .0) (c .loop-test .left) in
-    (stored-all _ (c .before .loop .inv .1) e, rw e at (c .before .loop .inv .2))
+    let j = c .before .loop .inv .1 in
+    (rw e at (j .swept), rw e at (j .tallied))
 
 pub walk-row-spec : {M : Type 1} → statement M
 walk-row-spec =
@@ -100,8 +116,11 @@ walk-row-spec =
     Inv-loop
     μ-loop
     mul-start
+    is-opened-requires
+    returns
     loop-holds
     add-at
+    shared-slice-read-if2
     shared-slice-read-value
     judged-requires
     slice-write-next
@@ -113,4 +132,4 @@ walk-row-spec =
     loop-less
     loop-again
     same-length
-    returns)
+    returns-2)

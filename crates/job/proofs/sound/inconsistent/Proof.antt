@@ -10,12 +10,12 @@ use Rattle.job.proofs.Settled.{small}
 use Rattle.job.proofs.sound.inconsistent.Statement.{statement}
 use Rattle.job.proofs.sound.inconsistent.Tie as tie
 
-bad-size-requires : tie.Need-bad-size-requires
-bad-size-requires c κs = tt
+is-bad-requires : tie.Need-is-bad-requires
+is-bad-requires c κs = tt
 
 returns : tie.Need-returns
 unfolding inconsistent
-returns c = simp (sym (c .before .bad-size .ensures) ∙ c .if1 .taken)
+returns c = simp (sym (c .before .is-bad .ensures) ∙ c .if1 .taken)
 
 check-requires : tie.Need-check-requires
 check-requires c κs = tt
@@ -28,7 +28,7 @@ unfolding inconsistent
 returns-2 c =
     let check = c .before .before in
     let size = check .before .before in
-    simp (sym (size .before .bad-size .ensures) ∙ size .if1 .left, sym (check .check .ensures) ∙ c .enum-told .given .1)
+    simp (sym (size .before .is-bad .ensures) ∙ size .if1 .left, sym (check .check .ensures) ∙ c .enum-told .given .1)
 
 enum-told-2 : tie.Need-enum-told-2
 enum-told-2 c = search needs
@@ -36,7 +36,7 @@ enum-told-2 c = search needs
 mul-pixels : tie.Need-mul-pixels
 mul-pixels c =
     let size = c .before .before .before .before .before in
-    omega (arith, small _ _ (sym (size .before .bad-size .ensures) ∙ size .if1 .left))
+    omega (arith, small _ _ (sym (size .before .is-bad .ensures) ∙ size .if1 .left))
 
 returns-3 : tie.Need-returns-3
 unfolding inconsistent
@@ -45,7 +45,7 @@ returns-3 c =
     let check = told .before .before in
     let size = check .before .before in
     simp (
-      sym (size .before .bad-size .ensures) ∙ size .if1 .left,
+      sym (size .before .is-bad .ensures) ∙ size .if1 .left,
       sym (check .check .ensures) ∙ told .enum-told2 .given .1,
       lt-ltb _ _ (c .if2 .taken),
     )
@@ -57,7 +57,7 @@ returns-4 c =
     let check = told .before .before in
     let size = check .before .before in
     simp (
-      sym (size .before .bad-size .ensures) ∙ size .if1 .left,
+      sym (size .before .is-bad .ensures) ∙ size .if1 .left,
       sym (check .check .ensures) ∙ told .enum-told2 .given .1,
       le-ltb _ _ (c .before .if2 .left),
       lt-ltb _ _ (c .if3 .taken),
@@ -76,7 +76,7 @@ returns-5 c =
     let told = areas .before .before .before in
     let check = told .before .before in
     let size = check .before .before in
-    stained _ (sym (size .before .bad-size .ensures) ∙ size .if1 .left) (sym (check .check .ensures) ∙ told .enum-told2 .given .1)
+    stained _ (sym (size .before .is-bad .ensures) ∙ size .if1 .left) (sym (check .check .ensures) ∙ told .enum-told2 .given .1)
     (areas .before .if2 .left) (areas .if3 .left) (pixels-seen (seen .before .image .ensures) (seen .above-one .ensures) ∙ c .if4 .taken)
 
 returns-6 : tie.Need-returns-6
@@ -87,7 +87,7 @@ returns-6 c =
     let told = areas .before .before .before in
     let check = told .before .before in
     let size = check .before .before in
-    many-passes _ (sym (size .before .bad-size .ensures) ∙ size .if1 .left) (sym (check .check .ensures) ∙ told .enum-told2 .given .1)
+    many-passes _ (sym (size .before .is-bad .ensures) ∙ size .if1 .left) (sym (check .check .ensures) ∙ told .enum-told2 .given .1)
     (areas .before .if2 .left) (areas .if3 .left) (pixels-seen (seen .before .image .ensures) (seen .above-one .ensures) ∙ pixel .if4 .left) (c .if5 .taken)
 
 sum-above-requires : tie.Need-sum-above-requires
@@ -102,14 +102,14 @@ returns-7 c =
     let check = told .before .before in
     let size = check .before .before in
     c .sum-above .ensures
-    ∙ counts-left _ (sym (size .before .bad-size .ensures) ∙ size .if1 .left) (sym (check .check .ensures) ∙ told .enum-told2 .given .1)
+    ∙ counts-left _ (sym (size .before .is-bad .ensures) ∙ size .if1 .left) (sym (check .check .ensures) ∙ told .enum-told2 .given .1)
     (areas .before .if2 .left) (areas .if3 .left) (pixels-seen (seen .before .image .ensures) (seen .above-one .ensures) ∙ pixel .if4 .left) (c .before .if5 .left)
 
 pub inconsistent-spec : {M : Type 1} → statement M
 inconsistent-spec =
     tie.close
     (tie.spec
-    bad-size-requires
+    is-bad-requires
     returns
     check-requires
     enum-told
