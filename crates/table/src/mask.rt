@@ -86,4 +86,3 @@ fn partners(persistent: u32, b: usize) -> u64
 {
     (((persistent as u64) << CENTRE) >> b) & COLUMNS[b % SIDE]
 }
-// x

@@ -1,0 +1,55 @@
+-- `trial_runs::records::missing_place` is safe and ends: the index stays within its range.
+-- Assumes nothing.
+use Prim.Native.Nat.{_≤_, _-_}
+use borrow.Author.Needs.{needs}
+use Rattle.trial_runs.proofs.records.missing_place.Statement.{statement}
+use Rattle.trial_runs.proofs.records.missing_place.Tie as tie
+
+abbrev Inv-loop : tie.InvT-loop
+Inv-loop elements count persistent k₀ k = k ≤ 64
+
+abbrev μ-loop : tie.MeasureT-loop
+μ-loop elements count persistent k₀ k = 64 - k
+
+loop-holds : tie.Need-loop-holds Inv-loop μ-loop
+loop-holds c = search needs
+
+mask-at-requires : tie.Need-mask-at-requires Inv-loop μ-loop
+mask-at-requires c κs = search needs
+
+persists-requires : tie.Need-persists-requires Inv-loop μ-loop
+persists-requires c κs = search needs
+
+add-result : tie.Need-add-result Inv-loop μ-loop
+add-result c = search needs
+
+returns : tie.Need-returns Inv-loop μ-loop
+returns c = search needs
+
+add-k : tie.Need-add-k Inv-loop μ-loop
+add-k c = search needs
+
+loop-less : tie.Need-loop-less Inv-loop μ-loop
+loop-less c = search needs
+
+loop-again : tie.Need-loop-again Inv-loop μ-loop
+loop-again c = search needs
+
+returns-2 : tie.Need-returns-2 Inv-loop μ-loop
+returns-2 c = search needs
+
+pub missing-place-spec : {M : Type 1} → statement M
+missing-place-spec =
+    tie.close
+    (tie.spec
+    Inv-loop
+    μ-loop
+    loop-holds
+    mask-at-requires
+    persists-requires
+    add-result
+    returns
+    add-k
+    loop-less
+    loop-again
+    returns-2)

@@ -1,0 +1,53 @@
+-- `trial_runs::trials::bar` is safe and ends: the index stays within its range.
+-- Assumes nothing.
+use mathlib.Core.Path.{_≡_}
+use Prim.Native.Nat.{_≤_, _-_}
+use lib.ListN.{length}
+use borrow.Author.Needs.{needs}
+use Rattle.trial_runs.proofs.trials.bar.Statement.{statement}
+use Rattle.trial_runs.proofs.trials.bar.Tie as tie
+
+abbrev Inv-loop : tie.InvT-loop
+Inv-loop pixels₀ k₀ pixels k = (k ≤ 576) × (length pixels ≡ length pixels₀)
+
+abbrev μ-loop : tie.MeasureT-loop
+μ-loop pixels₀ k₀ pixels k = 576 - k
+
+loop-holds : tie.Need-loop-holds Inv-loop μ-loop
+loop-holds c = search needs
+
+bar-pixel-requires : tie.Need-bar-pixel-requires Inv-loop μ-loop
+bar-pixel-requires c κs = search needs
+
+put-requires : tie.Need-put-requires Inv-loop μ-loop
+put-requires c κs = search needs
+
+add-k : tie.Need-add-k Inv-loop μ-loop
+add-k c = search needs
+
+loop-less : tie.Need-loop-less Inv-loop μ-loop
+loop-less c = search needs
+
+loop-again : tie.Need-loop-again Inv-loop μ-loop
+loop-again c = search needs
+
+same-length : tie.Need-same-length Inv-loop μ-loop
+same-length c = search needs
+
+returns : tie.Need-returns Inv-loop μ-loop
+returns c = search needs
+
+pub bar-spec : {M : Type 1} → statement M
+bar-spec =
+    tie.close
+    (tie.spec
+    Inv-loop
+    μ-loop
+    loop-holds
+    bar-pixel-requires
+    put-requires
+    add-k
+    loop-less
+    loop-again
+    same-length
+    returns)
