@@ -19,21 +19,20 @@ use Rattle.history.proofs.Refused.{refused, unaltered}
 use Rattle.history.proofs.Related.{stageOf, Held, RelatedTo, Related}
 use Rattle.history.proofs.Row.{row-bound, row-single, row-balance}
 use Rattle.history.proofs.Run.{run-as-passes}
-use Rattle.history.proofs.Theory.{Theory}
 use Rattle.history.proofs.View.{view-held, operated}
 
-pub agrees : Theory → {s : State} {e : Entry} {n : ℕ} → Held s e n → Agrees s e
-agrees th {s} r = record {
+pub agrees : {s : State} {e : Entry} {n : ℕ} → Held s e n → Agrees s e
+agrees {s} r = record {
   table = ap (λ (j : Job). j .table) (r .job);
   width = ap (λ (j : Job). j .width) (r .job);
   height = ap (λ (j : Job). j .height) (r .job);
-  view = view-held th r;
+  view = view-held r;
   passes = ap (λ (j : Job). j .passes) (r .job);
   added = ap (λ (j : Job). j .added) (r .job);
   removed = ap (λ (j : Job). j .removed) (r .job);
-  balance = rw (r .job) (row-balance th (r .accepted) (r .row) (r .begun));
-  single = row-single th (r .accepted) (r .row) (r .begun);
-  bound = row-bound th (r .accepted) (r .row) (r .begun);
+  balance = rw (r .job) (row-balance (r .accepted) (r .row) (r .begun));
+  single = row-single (r .accepted) (r .row) (r .begun);
+  bound = row-bound (r .accepted) (r .row) (r .begun);
 }
 
 -- the stage of a record that holds an entry
@@ -72,23 +71,22 @@ stage-settled s (holds e) n r = (
 pub held : (w : Course) → Related w → (e : Entry) → w .history ≡ holds e → Held (w .state) e (w .tally)
 held w r e q = subst (λ (H : History). RelatedTo (w .state) H (w .tally)) q r
 
-module _ (th : Theory) where
-  run-from : (w : Course) → Related w → (e : Entry) → w .history ≡ holds e → RunAsPasses w e
-  run-from w r e q =
-      subst (λ (H : History). RunAsPasses (record { state = w .state; history = H; tally = w .tally }) e) (sym q)
-      (run-as-passes th (held w r e q))
+run-from : (w : Course) → Related w → (e : Entry) → w .history ≡ holds e → RunAsPasses w e
+run-from w r e q =
+    subst (λ (H : History). RunAsPasses (record { state = w .state; history = H; tally = w .tally }) e) (sym q)
+    (run-as-passes (held w r e q))
 
-  pub after-related : (w : Course) → Related w → AfterList w
-  after-related w r = record {
-    stage-empty = stage-empty (w .state) (w .history) (w .tally) r;
-    stage-settled = stage-settled (w .state) (w .history) (w .tally) r;
-    agrees = λ e q. agrees th (held w r e q);
-    operated = λ e q. operated th (held w r e q);
-    run-as-passes = run-from w r;
-    refused = same;
-    never-14 = λ c x q. never-14 c (lengthsOf (w .state)) (w .history) x (sym (same c) ∙ q);
-    unaltered = λ c x. unaltered th c (w .state) (w .history) (w .tally) x r;
-  }
-    where
-      same : (c : Call) → refusalOf (answerOf c (w .state)) ≡ refusedBy c (lengthsOf (w .state)) (w .history)
-      same c = refused th c (w .state) (w .history) (w .tally) r
+pub after-related : (w : Course) → Related w → AfterList w
+after-related w r = record {
+  stage-empty = stage-empty (w .state) (w .history) (w .tally) r;
+  stage-settled = stage-settled (w .state) (w .history) (w .tally) r;
+  agrees = λ e q. agrees (held w r e q);
+  operated = λ e q. operated (held w r e q);
+  run-as-passes = run-from w r;
+  refused = same;
+  never-14 = λ c x q. never-14 c (lengthsOf (w .state)) (w .history) x (sym (same c) ∙ q);
+  unaltered = λ c x. unaltered c (w .state) (w .history) (w .tally) x r;
+}
+  where
+    same : (c : Call) → refusalOf (answerOf c (w .state)) ≡ refusedBy c (lengthsOf (w .state)) (w .history)
+    same c = refused c (w .state) (w .history) (w .tally) r

@@ -15,7 +15,6 @@ use Rattle.history.specs.Lists.{lengthsOf, tallied, tallyAs}
 use Rattle.history.specs.State.{State, emptyJob}
 use Rattle.history.proofs.Related.{stageOf, Held, RelatedTo}
 use Rattle.history.proofs.Sound.{sound-empty, sound-held, stage-held}
-use Rattle.history.proofs.Theory.{Theory}
 use Rattle.image.specs.File.{imageBytes}
 use Rattle.verdict.specs.declared.Verdict.{Verdict}
 use Rattle.verdict.specs.declared.Verdict.the-variants.{Accepted, Refused}
@@ -29,25 +28,25 @@ pub collect-empty : (out : List ℕ) (s : State) → s .job ≡ emptyJob → col
 unfolding collectVerdict refusedBy emptyJob
 collect-empty out s q = rw (sound-empty s q, q)
 
-module _ (th : Theory) {s : State} {e : Entry} {n : ℕ} (r : Held s e n) where
+module _ {s : State} {e : Entry} {n : ℕ} (r : Held s e n) where
   collected-held : collected s ≡ imageBytes (e .width) (e .height) (e .last)
   unfolding collected
   collected-held = rw (r .shown, r .job)
 
   pub collect-held : (out : List ℕ) → collectVerdict (length out) s ≡ refusedBy (collect out) (lengthsOf s) (holds e)
   unfolding collectVerdict refusedBy
-  collect-held out = rw (sound-held th r, collected-held, r .job, stage-held, stage-unsettled)
+  collect-held out = rw (sound-held r, collected-held, r .job, stage-held, stage-unsettled)
 
-pub collect-keeps : Theory → (out : List ℕ) (s : State) (H : History) (n : ℕ) → RelatedTo s H n
+pub collect-keeps : (out : List ℕ) (s : State) (H : History) (n : ℕ) → RelatedTo s H n
     → RelatedTo (collectState (length out) s) (after (collect out) (lengthsOf s) H)
     (tallyAs (refusedBy (collect out) (lengthsOf s) H) (collect out) H n)
 unfolding collectState after accepted tallied
-collect-keeps th out s empty n q = rw (collect-empty out s q) (go (refusedBy (collect out) (lengthsOf s) empty))
+collect-keeps out s empty n q = rw (collect-empty out s q) (go (refusedBy (collect out) (lengthsOf s) empty))
   where
     go : (v : Verdict) → RelatedTo (collectAs v s) (afterAs v (collect out) empty) (tallyAs v (collect out) empty n)
     go Accepted = refl
     go (Refused x) = q
-collect-keeps th out s (holds e) n r = rw (collect-held th r out) (go (refusedBy (collect out) (lengthsOf s) (holds e)))
+collect-keeps out s (holds e) n r = rw (collect-held r out) (go (refusedBy (collect out) (lengthsOf s) (holds e)))
   where
     go : (v : Verdict) → RelatedTo (collectAs v s) (afterAs v (collect out) (holds e)) (tallyAs v (collect out) (holds e) n)
     go Accepted = refl

@@ -1,4 +1,3 @@
-pub mod Theory
 pub mod Images
 pub mod Areas
 pub mod Row

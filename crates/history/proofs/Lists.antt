@@ -19,45 +19,43 @@ use Rattle.history.proofs.Pass.{pass-held}
 use Rattle.history.proofs.Refused.{pass-empty, run-empty}
 use Rattle.history.proofs.Related.{RelatedTo, Related}
 use Rattle.history.proofs.Run.{course, run-as-passes}
-use Rattle.history.proofs.Theory.{Theory}
 
 -- the relation after a call
 abbrev Kept : Call → State → History → ℕ → Type 0
 Kept c s H n = Related (step c (record { state = s; history = H; tally = n }))
 
-module _ (th : Theory) where
-  pass-keeps : (s : State) (H : History) (n : ℕ) → RelatedTo s H n → Kept pass s H n
-  unfolding step stateOf after refusedBy accepted tallied
-  pass-keeps s empty n q = rw (pass-empty s q) q
-  pass-keeps s (holds e) n r = pass-held th r
+pass-keeps : (s : State) (H : History) (n : ℕ) → RelatedTo s H n → Kept pass s H n
+unfolding step stateOf after refusedBy accepted tallied
+pass-keeps s empty n q = rw (pass-empty s q) q
+pass-keeps s (holds e) n r = pass-held r
 
-  -- a run is its passes, so what each of them keeps the run keeps
-  pub passes-keep : (k : ℕ) (w : Course) → Related w → Related (play (replicate k pass) w)
-  passes-keep zero w r = r
-  passes-keep (suc k) w r = passes-keep k (step pass w) (pass-keeps (w .state) (w .history) (w .tally) r)
+-- a run is its passes, so what each of them keeps the run keeps
+pub passes-keep : (k : ℕ) (w : Course) → Related w → Related (play (replicate k pass) w)
+passes-keep zero w r = r
+passes-keep (suc k) w r = passes-keep k (step pass w) (pass-keeps (w .state) (w .history) (w .tally) r)
 
-  run-keeps : (s : State) (H : History) (n : ℕ) → RelatedTo s H n → Kept run s H n
-  unfolding step stateOf after refusedBy
-  run-keeps s empty n q = rw (run-empty s q) q
-  run-keeps s (holds e) n r =
-      let a = run-as-passes th r in
-      subst⁻¹ Related (a .singly) (passes-keep (a .passes) (course s e n) r)
+run-keeps : (s : State) (H : History) (n : ℕ) → RelatedTo s H n → Kept run s H n
+unfolding step stateOf after refusedBy
+run-keeps s empty n q = rw (run-empty s q) q
+run-keeps s (holds e) n r =
+    let a = run-as-passes r in
+    subst⁻¹ Related (a .singly) (passes-keep (a .passes) (course s e n) r)
 
-  keeps : (c : Call) (s : State) (H : History) (n : ℕ) → RelatedTo s H n → Kept c s H n
-  unfolding step stateOf after refusedBy accepted tallied
-  keeps (load t f) s H n r = load-keeps th t f s H n r
-  keeps pass s H n r = pass-keeps s H n r
-  keeps run s H n r = run-keeps s H n r
-  keeps view s empty n q = q
-  keeps view s (holds e) n r = r
-  keeps figures s empty n q = q
-  keeps figures s (holds e) n r = r
-  keeps (collect out) s H n r = collect-keeps th out s H n r
+keeps : (c : Call) (s : State) (H : History) (n : ℕ) → RelatedTo s H n → Kept c s H n
+unfolding step stateOf after refusedBy accepted tallied
+keeps (load t f) s H n r = load-keeps t f s H n r
+keeps pass s H n r = pass-keeps s H n r
+keeps run s H n r = run-keeps s H n r
+keeps view s empty n q = q
+keeps view s (holds e) n r = r
+keeps figures s empty n q = q
+keeps figures s (holds e) n r = r
+keeps (collect out) s H n r = collect-keeps out s H n r
 
-  play-related : (cs : List Call) (w : Course) → Related w → Related (play cs w)
-  play-related [] w r = r
-  play-related (c ∷ cs) w r = play-related cs (step c w) (keeps c (w .state) (w .history) (w .tally) r)
+play-related : (cs : List Call) (w : Course) → Related w → Related (play cs w)
+play-related [] w r = r
+play-related (c ∷ cs) w r = play-related cs (step c w) (keeps c (w .state) (w .history) (w .tally) r)
 
-  pub played-related : (cs : List Call) (a b : List ℕ) → Related (played cs a b)
-  unfolding start
-  played-related cs a b = play-related cs (start a b) refl
+pub played-related : (cs : List Call) (a b : List ℕ) → Related (played cs a b)
+unfolding start
+played-related cs a b = play-related cs (start a b) refl

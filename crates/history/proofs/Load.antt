@@ -22,7 +22,6 @@ use Rattle.history.proofs.Images.{file-sized, file-image}
 use Rattle.history.proofs.Related.{Held, RelatedTo}
 use Rattle.history.proofs.Row.{alone}
 use Rattle.history.proofs.Sound.{sound-empty, sound-held, stage-held}
-use Rattle.history.proofs.Theory.{Theory}
 use Rattle.image.specs.File.{fileVerdict}
 use Rattle.image.specs.Header.{widthOf, heightOf}
 use Rattle.image.specs.RoundTrip.{imageOf}
@@ -39,9 +38,9 @@ pub load-empty : (t : Table) (f : List ℕ) (s : State) → s .job ≡ emptyJob 
 unfolding loadVerdict refusedBy lengthsOf emptyJob
 load-empty t f s q = rw (sound-empty s q, q)
 
-pub load-held : Theory → (t : Table) (f : List ℕ) {s : State} {e : Entry} {n : ℕ} → Held s e n → loadVerdict t f s ≡ Refused (refusal 15 0)
+pub load-held : (t : Table) (f : List ℕ) {s : State} {e : Entry} {n : ℕ} → Held s e n → loadVerdict t f s ≡ Refused (refusal 15 0)
 unfolding loadVerdict
-load-held th t f r = rw (sound-held th r, r .job, stage-held)
+load-held t f r = rw (sound-held r, r .job, stage-held)
 
 refused-held : (t : Table) (f : List ℕ) (n : Lengths) (e : Entry) → refusedBy (load t f) n (holds e) ≡ Refused (refusal 15 0)
 unfolding refusedBy
@@ -96,13 +95,13 @@ load-entered t f s x = let sized = file-image f (x .file) .sized in record {
   tallied = refl;
 }
 
-pub load-keeps : Theory → (t : Table) (f : List ℕ) (s : State) (H : History) (n : ℕ) → RelatedTo s H n
+pub load-keeps : (t : Table) (f : List ℕ) (s : State) (H : History) (n : ℕ) → RelatedTo s H n
     → RelatedTo (loadState t f s) (after (load t f) (lengthsOf s) H) (tallyAs (refusedBy (load t f) (lengthsOf s) H) (load t f) H n)
 unfolding loadState after accepted tallied
-load-keeps th t f s empty n q = rw (load-empty t f s q) (go (refusedBy (load t f) (lengthsOf s) empty) refl)
+load-keeps t f s empty n q = rw (load-empty t f s q) (go (refusedBy (load t f) (lengthsOf s) empty) refl)
   where
     go : (v : Verdict) → refusedBy (load t f) (lengthsOf s) empty ≡ v
         → RelatedTo (loadAs v t f s) (afterAs v (load t f) empty) (tallyAs v (load t f) empty n)
     go Accepted a = load-entered t f s (fits t f s a)
     go (Refused x) a = q
-load-keeps th t f s (holds e) n r = rw (load-held th t f r, refused-held t f (lengthsOf s) e) r
+load-keeps t f s (holds e) n r = rw (load-held t f r, refused-held t f (lengthsOf s) e) r

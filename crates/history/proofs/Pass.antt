@@ -18,7 +18,7 @@ use borrow.Author.Tests.{le-ltb}
 use lib.ListN.{length}
 use Rattle.filter.specs.Image.{IsImage, added, removed, differs}
 use Rattle.filter.specs.Pass as filter
-use Rattle.filter.proofs.Counts.{differs-equal}
+use Rattle.filter.proofs.Counts.{all-counts, differs-equal}
 use Rattle.history.specs.declared.Job.{Job}
 use Rattle.history.specs.declared.Passed.the-variants as answer
 use Rattle.history.specs.History.{Entry, nextOf, joined, marked, passed}
@@ -30,7 +30,6 @@ use Rattle.history.proofs.Entries.{passed-settled, passed-changed, pass
 use Rattle.history.proofs.Related.{jobOf, Held}
 use Rattle.history.proofs.Row.{Row, next, row-image, row-bound, row-changes}
 use Rattle.history.proofs.Sound.{ready-held}
-use Rattle.history.proofs.Theory.{Theory}
 use Rattle.seq.proofs.Lists.{clash, either}
 
 -- the ways that a pass goes: with the mark it alters nothing; else the new image differs, or it does not
@@ -41,18 +40,18 @@ pub data Turn (s : State) (e : Entry) : Type 0 where
   quiet : e .settled ≡ false → differs (e .last) (nextOf e) ≡ false
       → passOf s ≡ record { answer = answer.Stable; state = withNext (stableJob s) s } → Turn s e
 
-module _ (th : Theory) {s : State} {e : Entry} {n : ℕ} (r : Held s e n) where
+module _ {s : State} {e : Entry} {n : ℕ} (r : Held s e n) where
   -- the new image and the new record are those that the entry says
   next-image : nextImage s ≡ nextOf e
   unfolding nextImage nextOf
   next-image = rw (r .shown, r .job)
 
   last-image : IsImage (e .width) (e .height) (e .last)
-  last-image = row-image th (r .accepted) (r .row) (r .begun)
+  last-image = row-image (r .accepted) (r .row) (r .begun)
 
   next-of-image : IsImage (e .width) (e .height) (nextOf e)
   unfolding nextOf
-  next-of-image = th .all-counts (e .table) (e .width) (e .height) (e .last) (r .accepted) last-image .image 1
+  next-of-image = all-counts (e .table) (e .width) (e .height) (e .last) (r .accepted) last-image .image 1
 
   next-sized : length (nextImage s) ≡ pixels (s .job)
   next-sized = rw (next-image, r .job) (next-of-image .sized)
@@ -75,10 +74,10 @@ module _ (th : Theory) {s : State} {e : Entry} {n : ℕ} (r : Held s e n) where
       longer = next refl d (r .row)
 
       few : length (e .earlier) + 1 ≤ e .width * e .height
-      few = omega (arith, row-bound th (r .accepted) longer (r .begun))
+      few = omega (arith, row-bound (r .accepted) longer (r .begun))
 
       changed : (overSteps added e + added (e .last) (nextOf e)) + (overSteps removed e + removed (e .last) (nextOf e)) ≤ e .width * e .height
-      changed = omega (arith, row-changes th (r .accepted) longer (r .begun))
+      changed = omega (arith, row-changes (r .accepted) longer (r .begun))
 
   -- the job is sound and loaded, so what a pass does goes by the mark and by the new image
   pub turn : Turn s e
@@ -86,13 +85,13 @@ module _ (th : Theory) {s : State} {e : Entry} {n : ℕ} (r : Held s e n) where
   turn = ⊎-elim rests (λ q. ⊎-elim (goes q) (stands q) (either (differs (e .last) (nextOf e)))) (either (e .settled))
     where
       rests : e .settled ≡ true → Turn s e
-      rests q = resting q (rw (ready-held th r, r .job, q))
+      rests q = resting q (rw (ready-held r, r .job, q))
 
       goes : e .settled ≡ false → differs (e .last) (nextOf e) ≡ true → Turn s e
-      goes q d = changes q d (rw (ready-held th r, within d, next-image, r .shown, d, r .job, q))
+      goes q d = changes q d (rw (ready-held r, within d, next-image, r .shown, d, r .job, q))
 
       stands : e .settled ≡ false → differs (e .last) (nextOf e) ≡ false → Turn s e
-      stands q d = quiet q d (rw (ready-held th r, next-image, r .shown, d, r .job, q))
+      stands q d = quiet q d (rw (ready-held r, next-image, r .shown, d, r .job, q))
 
   -- one more accepted pass, whether or not it changes the image
   one-more : filter.passes (e .table) (e .width) (e .height) (n + 1) (firstOf e) ≡ nextOf e

@@ -25,7 +25,6 @@ use Rattle.history.proofs.Load.{load-empty, load-held}
 use Rattle.history.proofs.Related.{Held, RelatedTo}
 use Rattle.history.proofs.Run.{run-as-passes}
 use Rattle.history.proofs.Sound.{ready-empty, ready-held}
-use Rattle.history.proofs.Theory.{Theory}
 use Rattle.history.proofs.View.{operated}
 use Rattle.verdict.specs.declared.Refusal.{Refusal}
 use Rattle.verdict.specs.declared.Verdict.{Verdict}
@@ -67,18 +66,18 @@ passed-accepted : (a : Passed) → (a ≡ passing.Changed) ⊎ (a ≡ passing.St
 passed-accepted a (inl q) = rw q
 passed-accepted a (inr q) = rw q
 
-refused-held : Theory → (c : Call) {s : State} {e : Entry} {n : ℕ} → Held s e n → refusalOf (answerOf c s) ≡ refusedBy c (lengthsOf s) (holds e)
+refused-held : (c : Call) {s : State} {e : Entry} {n : ℕ} → Held s e n → refusalOf (answerOf c s) ≡ refusedBy c (lengthsOf s) (holds e)
 unfolding answerOf refusedBy figuresOf collectWritten
-refused-held th (load t f) r = load-held th t f r
-refused-held th pass {s} r = passed-accepted (passOf s .answer) (operated th r .otherwise)
-refused-held th run {s} r = passed-accepted (runOf s .answer) (inr (run-as-passes th r .answer))
-refused-held th view r = ready-held th r
-refused-held th figures r = rw (ready-held th r)
-refused-held th (collect out) {s} r = written-refusal (collectVerdict (length out) s) (collected s) ∙ collect-held th r out
+refused-held (load t f) r = load-held t f r
+refused-held pass {s} r = passed-accepted (passOf s .answer) (operated r .otherwise)
+refused-held run {s} r = passed-accepted (runOf s .answer) (inr (run-as-passes r .answer))
+refused-held view r = ready-held r
+refused-held figures r = rw (ready-held r)
+refused-held (collect out) {s} r = written-refusal (collectVerdict (length out) s) (collected s) ∙ collect-held r out
 
-pub refused : Theory → (c : Call) (s : State) (H : History) (n : ℕ) → RelatedTo s H n → refusalOf (answerOf c s) ≡ refusedBy c (lengthsOf s) H
-refused th c s empty n q = refused-empty c s q
-refused th c s (holds e) n r = refused-held th c r
+pub refused : (c : Call) (s : State) (H : History) (n : ℕ) → RelatedTo s H n → refusalOf (answerOf c s) ≡ refusedBy c (lengthsOf s) H
+refused c s empty n q = refused-empty c s q
+refused c s (holds e) n r = refused-held c r
 
 -- a refused call alters neither record nor areas: by the verdicts of load and collect, and because a pass or a run is refused on an
 -- empty job only
@@ -92,22 +91,21 @@ unaltered-verdict view s r q = inl refl
 unaltered-verdict figures s r q = inl refl
 unaltered-verdict (collect out) s r q = inl (rw (sym (written-refusal (collectVerdict (length out) s) (collected s)) ∙ q))
 
-module _ (th : Theory) where
-  unaltered-pass : (s : State) (H : History) (n : ℕ) (r : Refusal) → RelatedTo s H n → refusalOf (answerOf pass s) ≡ Refused r → stateOf pass s ≡ s
-  unfolding answerOf stateOf
-  unaltered-pass s empty n r h q = ap (λ (o : Outcome). o .state) (pass-empty s h)
-  unaltered-pass s (holds e) n r h q = refused-accepted q (passed-accepted (passOf s .answer) (operated th h .otherwise))
+unaltered-pass : (s : State) (H : History) (n : ℕ) (r : Refusal) → RelatedTo s H n → refusalOf (answerOf pass s) ≡ Refused r → stateOf pass s ≡ s
+unfolding answerOf stateOf
+unaltered-pass s empty n r h q = ap (λ (o : Outcome). o .state) (pass-empty s h)
+unaltered-pass s (holds e) n r h q = refused-accepted q (passed-accepted (passOf s .answer) (operated h .otherwise))
 
-  unaltered-run : (s : State) (H : History) (n : ℕ) (r : Refusal) → RelatedTo s H n → refusalOf (answerOf run s) ≡ Refused r → stateOf run s ≡ s
-  unfolding answerOf stateOf
-  unaltered-run s empty n r h q = ap (λ (o : Outcome). o .state) (run-empty s h)
-  unaltered-run s (holds e) n r h q = refused-accepted q (passed-accepted (runOf s .answer) (inr (run-as-passes th h .answer)))
+unaltered-run : (s : State) (H : History) (n : ℕ) (r : Refusal) → RelatedTo s H n → refusalOf (answerOf run s) ≡ Refused r → stateOf run s ≡ s
+unfolding answerOf stateOf
+unaltered-run s empty n r h q = ap (λ (o : Outcome). o .state) (run-empty s h)
+unaltered-run s (holds e) n r h q = refused-accepted q (passed-accepted (runOf s .answer) (inr (run-as-passes h .answer)))
 
-  pub unaltered : (c : Call) (s : State) (H : History) (n : ℕ) (r : Refusal) → RelatedTo s H n → refusalOf (answerOf c s) ≡ Refused r → stateOf c s ≡ s
-  unaltered c s H n r h q = ⊎-elim (λ e. e) (⊎-elim by-pass by-run) (unaltered-verdict c s r q)
-    where
-      by-pass : c ≡ pass → stateOf c s ≡ s
-      by-pass e = rw e (unaltered-pass s H n r h (rw e at q))
+pub unaltered : (c : Call) (s : State) (H : History) (n : ℕ) (r : Refusal) → RelatedTo s H n → refusalOf (answerOf c s) ≡ Refused r → stateOf c s ≡ s
+unaltered c s H n r h q = ⊎-elim (λ e. e) (⊎-elim by-pass by-run) (unaltered-verdict c s r q)
+  where
+    by-pass : c ≡ pass → stateOf c s ≡ s
+    by-pass e = rw e (unaltered-pass s H n r h (rw e at q))
 
-      by-run : c ≡ run → stateOf c s ≡ s
-      by-run e = rw e (unaltered-run s H n r h (rw e at q))
+    by-run : c ≡ run → stateOf c s ≡ s
+    by-run e = rw e (unaltered-run s H n r h (rw e at q))

@@ -15,9 +15,10 @@ use native.Mathlib.Omega.{arith}
 use lib.ListN.{length}
 use Rattle.filter.specs.Image.{IsImage, black, added, removed, differs, differsAt}
 use Rattle.filter.specs.Pass.{pass, passes, Stable}
-use Rattle.filter.proofs.Counts.{equal-differs}
+use Rattle.filter.proofs.Counts.{all-counts, equal-differs}
+use Rattle.filter.proofs.Rest.{all-rest}
+use Rattle.filter.proofs.SingleChange.{single-change}
 use Rattle.history.specs.Lists.{oldest, sumSteps}
-use Rattle.history.proofs.Theory.{Theory}
 use Rattle.morph.specs.Bound.{total}
 use Rattle.seq.specs.Lists.{one, count}
 use Rattle.seq.specs.Tab.{upTo}
@@ -72,14 +73,14 @@ module _ {t : Table} {w h : ℕ} where
       omega (arith, count-upTo (λ i. differs (passes t w h i first) (passes t w h (suc i) first)) (length earlier), row-changing r, ap one here)
 
   -- every image of a row from a stable one is that one, so there is no step
-  pub row-stable : Theory → recordVerdict t ≡ Accepted → {img : List ℕ} {earlier : List (List ℕ)} → Row t w h img earlier
+  pub row-stable : recordVerdict t ≡ Accepted → {img : List ℕ} {earlier : List (List ℕ)} → Row t w h img earlier
       → Stable t w h (oldest img earlier) → earlier ≡ []
-  row-stable th ok alone s = refl
-  row-stable th ok (next {img = img} {before = before} {earlier = earlier} e d r) s =
+  row-stable ok alone s = refl
+  row-stable ok (next {img = img} {before = before} {earlier = earlier} e d r) s =
       clash d (ap (differs before) (img-first ∙ sym before-first) ∙ equal-differs before before refl)
     where
       stays : (n : ℕ) → passes t w h n (oldest before earlier) ≡ oldest before earlier
-      stays n = th .all-rest t w h ok .stays (oldest before earlier) 0 n s (omega arith)
+      stays n = all-rest t w h ok .stays (oldest before earlier) 0 n s (omega arith)
 
       before-first : before ≡ oldest before earlier
       before-first = sym (row-passes r) ∙ stays (length earlier)
@@ -87,31 +88,31 @@ module _ {t : Table} {w h : ℕ} where
       img-first : img ≡ oldest before earlier
       img-first = sym (row-passes (next e d r)) ∙ stays (suc (length earlier))
 
-module _ (th : Theory) {t : Table} {w h : ℕ} {img : List ℕ} {earlier : List (List ℕ)} (ok : recordVerdict t ≡ Accepted)
+module _ {t : Table} {w h : ℕ} {img : List ℕ} {earlier : List (List ℕ)} (ok : recordVerdict t ≡ Accepted)
     (r : Row t w h img earlier) (i : IsImage w h (oldest img earlier)) where
   -- every image of a row is an image, if the first is
   pub row-image : IsImage w h img
-  row-image = rw (row-passes r) at (th .all-counts t w h (oldest img earlier) ok i .image (length earlier))
+  row-image = rw (row-passes r) at (all-counts t w h (oldest img earlier) ok i .image (length earlier))
 
   -- each step changes the image
   pub row-bound : length earlier ≤ w * h
-  row-bound = omega (arith, row-changing r, th .all-counts t w h (oldest img earlier) ok i .bound (length earlier))
+  row-bound = omega (arith, row-changing r, all-counts t w h (oldest img earlier) ok i .bound (length earlier))
 
   pub row-changes : sumSteps added img earlier + sumSteps removed img earlier ≤ w * h
   row-changes =
-      omega (arith, row-sum added r, row-sum removed r, th .all-counts t w h (oldest img earlier) ok i .changes (length earlier))
+      omega (arith, row-sum added r, row-sum removed r, all-counts t w h (oldest img earlier) ok i .changes (length earlier))
 
   pub row-single : (k : ℕ) → sumSteps (λ a b. one (differsAt a b k)) img earlier ≤ 1
   row-single k =
       let first = oldest img earlier in
       rw (row-sum (λ a b. one (differsAt a b k)) r)
-      (total-one (λ n. differsAt (passes t w h n first) (passes t w h (suc n) first) k) (th .single-change t w h first ok i k)
+      (total-one (λ n. differsAt (passes t w h n first) (passes t w h (suc n) first) k) (single-change t w h first ok i k)
       (length earlier))
 
-module _ (th : Theory) {t : Table} {w h : ℕ} (ok : recordVerdict t ≡ Accepted) where
+module _ {t : Table} {w h : ℕ} (ok : recordVerdict t ≡ Accepted) where
   -- black in the last and removed over all steps is black in the first and added, step by step
   pub row-balance : {img : List ℕ} {earlier : List (List ℕ)} → Row t w h img earlier → IsImage w h (oldest img earlier)
       → black img + sumSteps removed img earlier ≡ black (oldest img earlier) + sumSteps added img earlier
   row-balance alone i = refl
   row-balance (next {img = img} {before = before} e d r) i =
-      rw e (omega (arith, row-balance r i, th .all-counts t w h before ok (row-image th ok r i) .balance))
+      rw e (omega (arith, row-balance r i, all-counts t w h before ok (row-image ok r i) .balance))

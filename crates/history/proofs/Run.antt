@@ -29,7 +29,6 @@ use Rattle.history.proofs.Entries.{cond-true, cond-false, passed-settle
 use Rattle.history.proofs.Pass.{resting, changes, quiet, turn, pass-held}
 use Rattle.history.proofs.Related.{Held}
 use Rattle.history.proofs.Row.{row-bound}
-use Rattle.history.proofs.Theory.{Theory}
 
 run-once : (s : State) → runFor 0 s ≡ passOf s
 unfolding runFor
@@ -82,74 +81,73 @@ data Begins (s : State) (e : Entry) : Type 0 where
   stops : passOf s .answer ≡ passing.Stable → passed e .settled ≡ true → ((k : ℕ) → passesOfRun (suc k) e ≡ 1) → Begins s e
   goes : passOf s .answer ≡ passing.Changed → passed e ≡ joined e → ((k : ℕ) → passesOfRun (suc k) e ≡ suc (passesOfRun k (passed e))) → Begins s e
 
-module _ (th : Theory) where
-  begins : {s : State} {e : Entry} {n : ℕ} → Held s e n → Begins s e
-  unfolding marked
-  begins {s} {e} r =
-      elim (turn th r) [
-        | resting q a ↦ stops (ap (λ (o : Outcome). o .answer) a) (ap (λ (x : Entry). x .settled) (passed-settled e q) ∙ q) (λ k. rw q)
-        | changes q d a
-            ↦ goes (ap (λ (o : Outcome). o .answer) a) (passed-changed e q d)
-            (λ k. rw (passed-changed e q d) (cond-false 1 _ q ∙ cond-true (suc (passesOfRun k (joined e))) 1 d))
-        | quiet q d a
-            ↦ stops (ap (λ (o : Outcome). o .answer) a) (ap (λ (x : Entry). x .settled) (passed-quiet e q d))
-            (λ k. cond-false 1 _ q ∙ cond-false (suc (passesOfRun k (joined e))) 1 d)
-      ]
+begins : {s : State} {e : Entry} {n : ℕ} → Held s e n → Begins s e
+unfolding marked
+begins {s} {e} r =
+    elim (turn r) [
+      | resting q a ↦ stops (ap (λ (o : Outcome). o .answer) a) (ap (λ (x : Entry). x .settled) (passed-settled e q) ∙ q) (λ k. rw q)
+      | changes q d a
+          ↦ goes (ap (λ (o : Outcome). o .answer) a) (passed-changed e q d)
+          (λ k. rw (passed-changed e q d) (cond-false 1 _ q ∙ cond-true (suc (passesOfRun k (joined e))) 1 d))
+      | quiet q d a
+          ↦ stops (ap (λ (o : Outcome). o .answer) a) (ap (λ (x : Entry). x .settled) (passed-quiet e q d))
+          (λ k. cond-false 1 _ q ∙ cond-false (suc (passesOfRun k (joined e))) 1 d)
+    ]
 
-  -- record, areas, history and tally after a run of at most k + 1 passes are those after the passes that it makes
-  abbrev Plays : (k : ℕ) → State → Entry → ℕ → ℕ → Type 0
-  Plays k s e n j = course (runFor k s .state) (passedFor (suc k) e) (n + j) ≡ play (replicate j pass) (course s e n)
+-- record, areas, history and tally after a run of at most k + 1 passes are those after the passes that it makes
+abbrev Plays : (k : ℕ) → State → Entry → ℕ → ℕ → Type 0
+Plays k s e n j = course (runFor k s .state) (passedFor (suc k) e) (n + j) ≡ play (replicate j pass) (course s e n)
 
-  -- by induction: a first pass that changes the image leaves the claim for the job after it; one that does not leaves a settled entry
-  run-plays : (k : ℕ) {s : State} {e : Entry} {n : ℕ} → Held s e n → Plays k s e n (passesOfRun (suc k) e)
-  run-plays zero {s} {e} {n} r = subst⁻¹ (Plays zero s e n) (single (begins r)) once
-    where
-      single : Begins s e → passesOfRun 1 e ≡ 1
-      single (stops a q p) = p 0
-      single (goes a q p) = p 0
+-- by induction: a first pass that changes the image leaves the claim for the job after it; one that does not leaves a settled entry
+run-plays : (k : ℕ) {s : State} {e : Entry} {n : ℕ} → Held s e n → Plays k s e n (passesOfRun (suc k) e)
+run-plays zero {s} {e} {n} r = subst⁻¹ (Plays zero s e n) (single (begins r)) once
+  where
+    single : Begins s e → passesOfRun 1 e ≡ 1
+    single (stops a q p) = p 0
+    single (goes a q p) = p 0
 
-      once : Plays zero s e n 1
-      once = rw (run-once s) (sym (step-pass s e n))
-  run-plays (suc k) {s} {e} {n} r = go (begins r) (run-plays k (pass-held th r))
-    where
-      go : Begins s e → Plays k (passOf s .state) (passed e) (n + 1) (passesOfRun (suc k) (passed e)) → Plays (suc k) s e n (passesOfRun (suc (suc k)) e)
-      go (stops a q p) below =
-          subst⁻¹ (Plays (suc k) s e n) (p (suc k))
-          (rw (run-stops k s a, settled-stays (suc k) (passed e) q) (sym (step-pass s e n)))
-      go (goes a q p) below =
-          subst⁻¹ (Plays (suc k) s e n) (p (suc k))
-          (rw (run-goes k s a)
-          (ap (course (runFor k (passOf s .state) .state) (passedFor (suc k) (passed e))) (omega arith)
-          ∙ below
-          ∙ ap (play (replicate (passesOfRun (suc k) (passed e)) pass)) (sym (step-pass s e n))))
+    once : Plays zero s e n 1
+    once = rw (run-once s) (sym (step-pass s e n))
+run-plays (suc k) {s} {e} {n} r = go (begins r) (run-plays k (pass-held r))
+  where
+    go : Begins s e → Plays k (passOf s .state) (passed e) (n + 1) (passesOfRun (suc k) (passed e)) → Plays (suc k) s e n (passesOfRun (suc (suc k)) e)
+    go (stops a q p) below =
+        subst⁻¹ (Plays (suc k) s e n) (p (suc k))
+        (rw (run-stops k s a, settled-stays (suc k) (passed e) q) (sym (step-pass s e n)))
+    go (goes a q p) below =
+        subst⁻¹ (Plays (suc k) s e n) (p (suc k))
+        (rw (run-goes k s a)
+        (ap (course (runFor k (passOf s .state) .state) (passedFor (suc k) (passed e))) (omega arith)
+        ∙ below
+        ∙ ap (play (replicate (passesOfRun (suc k) (passed e)) pass)) (sym (step-pass s e n))))
 
-  -- each pass but the last changes the image, and there are at most as many such passes as pixels
-  run-rests : (k : ℕ) {s : State} {e : Entry} {n : ℕ} → Held s e n → e .width * e .height ≤ k + length (e .earlier)
-      → runFor k s .answer ≡ passing.Stable
-  unfolding joined
-  run-rests zero {s} {e} {n} r l = go (begins r)
-    where
-      go : Begins s e → runFor 0 s .answer ≡ passing.Stable
-      go (stops a q p) = rw (run-once s) a
-      go (goes a q p) =
-          let h = pass-held th r in
-          absurd (omega (arith, rw q at (row-bound th (h .accepted) (h .row) (h .begun))))
-  run-rests (suc k) {s} {e} {n} r l = go (begins r) (run-rests k (pass-held th r))
-    where
-      go : Begins s e → (passed e .width * passed e .height ≤ k + length (passed e .earlier) → runFor k (passOf s .state) .answer ≡ passing.Stable)
-          → runFor (suc k) s .answer ≡ passing.Stable
-      go (stops a q p) below = rw (run-stops k s a) a
-      go (goes a q p) below = rw (run-goes k s a) (below (rw q (omega arith)))
+-- each pass but the last changes the image, and there are at most as many such passes as pixels
+run-rests : (k : ℕ) {s : State} {e : Entry} {n : ℕ} → Held s e n → e .width * e .height ≤ k + length (e .earlier)
+    → runFor k s .answer ≡ passing.Stable
+unfolding joined
+run-rests zero {s} {e} {n} r l = go (begins r)
+  where
+    go : Begins s e → runFor 0 s .answer ≡ passing.Stable
+    go (stops a q p) = rw (run-once s) a
+    go (goes a q p) =
+        let h = pass-held r in
+        absurd (omega (arith, rw q at (row-bound (h .accepted) (h .row) (h .begun))))
+run-rests (suc k) {s} {e} {n} r l = go (begins r) (run-rests k (pass-held r))
+  where
+    go : Begins s e → (passed e .width * passed e .height ≤ k + length (passed e .earlier) → runFor k (passOf s .state) .answer ≡ passing.Stable)
+        → runFor (suc k) s .answer ≡ passing.Stable
+    go (stops a q p) below = rw (run-stops k s a) a
+    go (goes a q p) below = rw (run-goes k s a) (below (rw q (omega arith)))
 
-  run-of : {s : State} {e : Entry} {n : ℕ} → Held s e n → runOf s ≡ runFor (e .width * e .height) s
-  unfolding runOf
-  run-of {s} r = ap (λ (j : Job). runFor (pixels j) s) (r .job)
+run-of : {s : State} {e : Entry} {n : ℕ} → Held s e n → runOf s ≡ runFor (e .width * e .height) s
+unfolding runOf
+run-of {s} r = ap (λ (j : Job). runFor (pixels j) s) (r .job)
 
-  -- a run is its passes called singly, at most one more than there are pixels
-  pub run-as-passes : {s : State} {e : Entry} {n : ℕ} → Held s e n → RunAsPasses (course s e n) e
-  run-as-passes {s} {e} {n} r = record {
-    passes = passesOfRun (e .width * e .height + 1) e;
-    few = few-passes (e .width * e .height + 1) e;
-    singly = step-run s e n ∙ rw (run-of r, add-one (e .width * e .height)) (run-plays (e .width * e .height) r);
-    answer = rw (run-of r) (run-rests (e .width * e .height) r (omega arith));
-  }
+-- a run is its passes called singly, at most one more than there are pixels
+pub run-as-passes : {s : State} {e : Entry} {n : ℕ} → Held s e n → RunAsPasses (course s e n) e
+run-as-passes {s} {e} {n} r = record {
+  passes = passesOfRun (e .width * e .height + 1) e;
+  few = few-passes (e .width * e .height + 1) e;
+  singly = step-run s e n ∙ rw (run-of r, add-one (e .width * e .height)) (run-plays (e .width * e .height) r);
+  answer = rw (run-of r) (run-rests (e .width * e .height) r (omega arith));
+}

@@ -12,7 +12,6 @@ use Rattle.history.specs.State.{State, emptyJob, nonzero, inconsistent, 
 use Rattle.history.proofs.Images.{none-above}
 use Rattle.history.proofs.Related.{stageOf, Held}
 use Rattle.history.proofs.Row.{row-image, row-bound, row-changes}
-use Rattle.history.proofs.Theory.{Theory}
 use Rattle.verdict.specs.declared.Verdict.the-variants.{Accepted, Refused}
 use Rattle.verdict.specs.Rules.{refusal}
 
@@ -33,7 +32,7 @@ pub ready-empty : (s : State) → s .job ≡ emptyJob → readyVerdict s ≡ Ref
 unfolding readyVerdict emptyJob
 ready-empty s q = rw (sound-empty s q, q)
 
-module _ (th : Theory) {s : State} {e : Entry} {n : ℕ} (r : Held s e n) where
+module _ {s : State} {e : Entry} {n : ℕ} (r : Held s e n) where
   consistent : inconsistent s ≡ false
   unfolding inconsistent
   consistent =
@@ -44,9 +43,9 @@ module _ (th : Theory) {s : State} {e : Entry} {n : ℕ} (r : Held s e n) where
         r .accepted,
         le-ltb _ _ (r .first-long),
         le-ltb _ _ (r .second-long),
-        none-above (row-image th (r .accepted) (r .row) (r .begun)),
-        le-ltb _ _ (row-bound th (r .accepted) (r .row) (r .begun)),
-        le-ltb _ _ (row-changes th (r .accepted) (r .row) (r .begun)),
+        none-above (row-image (r .accepted) (r .row) (r .begun)),
+        le-ltb _ _ (row-bound (r .accepted) (r .row) (r .begun)),
+        le-ltb _ _ (row-changes (r .accepted) (r .row) (r .begun)),
       )
 
   pub sound-held : unsound s ≡ false

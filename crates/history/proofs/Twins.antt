@@ -13,6 +13,9 @@ use lib.ListN.{length}
 use Rattle.filter.specs.Image.{IsImage, added, removed, exchange, Covered}
 use Rattle.filter.specs.Pass.{passes, Stable}
 use Rattle.filter.specs.Rest.{rested}
+use Rattle.filter.proofs.Exchange.{exchange-passes}
+use Rattle.filter.proofs.Order.{order-passes}
+use Rattle.filter.proofs.Rest.{all-rest}
 use Rattle.history.specs.Demand3.{Twins, Reloaded}
 use Rattle.history.specs.History.{Entry}
 use Rattle.history.specs.Lists.{Course, oldest, firstOf, sumSteps}
@@ -22,7 +25,6 @@ use Rattle.history.proofs.After.{agrees}
 use Rattle.history.proofs.Related.{Held}
 use Rattle.history.proofs.Row.{row-stable}
 use Rattle.history.proofs.Run.{run-as-passes}
-use Rattle.history.proofs.Theory.{Theory}
 use Rattle.history.proofs.View.{view-held, operated}
 
 -- one operator takes both first images to the last ones, and keeps exchange and order
@@ -33,58 +35,57 @@ record Shared (e e' : Entry) : Type 0 where
   exchanging : (img : List ℕ) → IsImage (e .width) (e .height) img → operator (exchange img) ≡ exchange (operator img)
   ordering : (a b : List ℕ) → IsImage (e .width) (e .height) a → IsImage (e .width) (e .height) b → Covered a b → Covered (operator a) (operator b)
 
-module _ (th : Theory) where
-  -- the last image of a settled entry is stable, so it is the rested one
-  rested-last : {s : State} {e : Entry} {n : ℕ} → Held s e n → e .settled ≡ true → rested (e .table) (e .width) (e .height) (firstOf e) ≡ e .last
-  rested-last {e = e} {n = n} r q =
-      th .all-rest (e .table) (e .width) (e .height) (r .accepted) .first (firstOf e) (r .begun) n (rw (r .tallied) (r .stable q)) ∙ r .tallied
+-- the last image of a settled entry is stable, so it is the rested one
+rested-last : {s : State} {e : Entry} {n : ℕ} → Held s e n → e .settled ≡ true → rested (e .table) (e .width) (e .height) (firstOf e) ≡ e .last
+rested-last {e = e} {n = n} r q =
+    all-rest (e .table) (e .width) (e .height) (r .accepted) .first (firstOf e) (r .begun) n (rw (r .tallied) (r .stable q)) ∙ r .tallied
 
-  module _ {w w' : Course} {e e' : Entry} (two : Twins w w' e e') (r : Held (w .state) e (w .tally)) (r' : Held (w' .state) e' (w' .tally)) where
-    -- as many passes as both have made, or the operator that gives the rested image
-    shared : (w .tally ≡ w' .tally) ⊎ ((e .settled ≡ true) × (e' .settled ≡ true)) → Shared e e'
-    shared (inl same) = record {
-      operator = passes (e .table) (e .width) (e .height) (w .tally);
-      here = r .tallied;
-      there = rw (same, two .table, two .width, two .height) (r' .tallied);
-      exchanging = λ img i. th .exchange-passes (e .table) (e .width) (e .height) img (r .accepted) i (w .tally);
-      ordering = λ a b i j c. th .order-passes (e .table) (e .width) (e .height) a b (r .accepted) i j c (w .tally);
-    }
-    shared (inr both) = record {
-      operator = rested (e .table) (e .width) (e .height);
-      here = rested-last r (both .0);
-      there = rw (two .table, two .width, two .height) (rested-last r' (both .1));
-      exchanging = th .all-rest (e .table) (e .width) (e .height) (r .accepted) .exchanged;
-      ordering = th .all-rest (e .table) (e .width) (e .height) (r .accepted) .ordered;
-    }
-
-    pub exchanged : firstOf e' ≡ exchange (firstOf e) → viewOf (w' .state) ≡ exchange (viewOf (w .state))
-    exchanged q =
-        let f = shared (two .together) in
-        view-held th r'
-        ∙ sym (f .there)
-        ∙ ap (f .operator) q
-        ∙ f .exchanging (firstOf e) (r .begun)
-        ∙ ap exchange (f .here ∙ sym (view-held th r))
-
-    pub ordered : Covered (firstOf e) (firstOf e') → Covered (viewOf (w .state)) (viewOf (w' .state))
-    ordered c =
-        let f = shared (two .together) in
-        subst₂ Covered (f .here ∙ sym (view-held th r)) (f .there ∙ sym (view-held th r'))
-        (f .ordering (firstOf e) (firstOf e') (r .begun) (rw (two .width, two .height) (r' .begun)) c)
-
-  -- every pass on a stable image is quiet, so there is no step from it
-  pub reloaded : {s : State} {e : Entry} {n : ℕ} → Held s e n → Stable (e .table) (e .width) (e .height) (firstOf e) → Reloaded s e
-  reloaded {s} {e} r q = record {
-    view = view-held th r ∙ last-first;
-    passes = agrees th r .passes ∙ ap length none;
-    added = agrees th r .added ∙ ap (sumSteps added (e .last)) none;
-    removed = agrees th r .removed ∙ ap (sumSteps removed (e .last)) none;
-    pass-answer = operated th r .reported .1 (rw (view-held th r, last-first) q);
-    run-answer = run-as-passes th r .answer;
+module _ {w w' : Course} {e e' : Entry} (two : Twins w w' e e') (r : Held (w .state) e (w .tally)) (r' : Held (w' .state) e' (w' .tally)) where
+  -- as many passes as both have made, or the operator that gives the rested image
+  shared : (w .tally ≡ w' .tally) ⊎ ((e .settled ≡ true) × (e' .settled ≡ true)) → Shared e e'
+  shared (inl same) = record {
+    operator = passes (e .table) (e .width) (e .height) (w .tally);
+    here = r .tallied;
+    there = rw (same, two .table, two .width, two .height) (r' .tallied);
+    exchanging = λ img i. exchange-passes (e .table) (e .width) (e .height) img (r .accepted) i (w .tally);
+    ordering = λ a b i j c. order-passes (e .table) (e .width) (e .height) a b (r .accepted) i j c (w .tally);
   }
-    where
-      none : e .earlier ≡ []
-      none = row-stable th (r .accepted) (r .row) q
+  shared (inr both) = record {
+    operator = rested (e .table) (e .width) (e .height);
+    here = rested-last r (both .0);
+    there = rw (two .table, two .width, two .height) (rested-last r' (both .1));
+    exchanging = all-rest (e .table) (e .width) (e .height) (r .accepted) .exchanged;
+    ordering = all-rest (e .table) (e .width) (e .height) (r .accepted) .ordered;
+  }
 
-      last-first : e .last ≡ firstOf e
-      last-first = sym (ap (oldest (e .last)) none)
+  pub exchanged : firstOf e' ≡ exchange (firstOf e) → viewOf (w' .state) ≡ exchange (viewOf (w .state))
+  exchanged q =
+      let f = shared (two .together) in
+      view-held r'
+      ∙ sym (f .there)
+      ∙ ap (f .operator) q
+      ∙ f .exchanging (firstOf e) (r .begun)
+      ∙ ap exchange (f .here ∙ sym (view-held r))
+
+  pub ordered : Covered (firstOf e) (firstOf e') → Covered (viewOf (w .state)) (viewOf (w' .state))
+  ordered c =
+      let f = shared (two .together) in
+      subst₂ Covered (f .here ∙ sym (view-held r)) (f .there ∙ sym (view-held r'))
+      (f .ordering (firstOf e) (firstOf e') (r .begun) (rw (two .width, two .height) (r' .begun)) c)
+
+-- every pass on a stable image is quiet, so there is no step from it
+pub reloaded : {s : State} {e : Entry} {n : ℕ} → Held s e n → Stable (e .table) (e .width) (e .height) (firstOf e) → Reloaded s e
+reloaded {s} {e} r q = record {
+  view = view-held r ∙ last-first;
+  passes = agrees r .passes ∙ ap length none;
+  added = agrees r .added ∙ ap (sumSteps added (e .last)) none;
+  removed = agrees r .removed ∙ ap (sumSteps removed (e .last)) none;
+  pass-answer = operated r .reported .1 (rw (view-held r, last-first) q);
+  run-answer = run-as-passes r .answer;
+}
+  where
+    none : e .earlier ≡ []
+    none = row-stable (r .accepted) (r .row) q
+
+    last-first : e .last ≡ firstOf e
+    last-first = sym (ap (oldest (e .last)) none)
