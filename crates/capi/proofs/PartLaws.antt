@@ -1,5 +1,6 @@
 -- The part that C is told of is the view.
---     part-refused, part-accepted     an answer by the verdict that the library gave: it is `partOf`, and shows the view
+--     Promised s p                    an answer is `partOf`, it shows the view, and record and areas are as they were
+--     part-refused, part-accepted     so it is, by the verdict that the library gave
 -- Assumes nothing.
 use mathlib.Core.Bool.{Bool, true, false, cond}
 use mathlib.Core.Path.{_≡_, refl}
@@ -10,8 +11,9 @@ use Rattle.capi.specs.declared.Part.{Part}
 use Rattle.capi.specs.Part.{partAs, partOf, areaOf, Shows}
 use Rattle.history.specs.State.{State, pixels, even, present, image, readyVerdict}
 use Rattle.history.specs.View.{viewOf}
-use Rattle.job.specs.Ready.{Ready}
-use Rattle.job.proofs.Ready.{accepted-ready}
+use Rattle.history.specs.Call.{view, stateOf}
+use Rattle.history.specs.Sound.{Ready}
+use Rattle.history.proofs.Ready.{accepted-ready}
 use Rattle.verdict.specs.declared.Refusal.{Refusal}
 use Rattle.verdict.specs.declared.Verdict.{Verdict}
 use Rattle.verdict.specs.declared.Verdict.the-variants.{Accepted, Refused}
@@ -42,13 +44,17 @@ shows-as s (Refused r) e = record { bytes = rw e; inside = omega arith }
 abbrev accepted : ℕ → State → Part
 accepted n s = record { number = 0; place = 0; area = n; length = pixels (s .job) }
 
-module _ (s : State) where
-  by-verdict : (v : Verdict) → readyVerdict s ≡ v → (partAs v s ≡ partOf s) × Shows (partAs v s) s
-  by-verdict v e = (part-is s e, shows-as s v e)
+-- what is promised of an answer; record and areas are as they were
+abbrev Promised : State → Part → Type 0
+Promised s p = (p ≡ partOf s) × Shows p s × (stateOf view s ≡ s)
 
-  pub part-refused : {r : Refusal} → readyVerdict s ≡ Refused r → (partAs (Refused r) s ≡ partOf s) × Shows (partAs (Refused r) s) s
+module _ (s : State) where
+  by-verdict : (v : Verdict) → readyVerdict s ≡ v → Promised s (partAs v s)
+  unfolding stateOf
+  by-verdict v e = (part-is s e, shows-as s v e, refl)
+
+  pub part-refused : {r : Refusal} → readyVerdict s ≡ Refused r → Promised s (partAs (Refused r) s)
   part-refused e = by-verdict _ e
 
-  pub part-accepted : readyVerdict s ≡ Accepted → {n : ℕ} → n ≡ cond (even (s .job .passes)) 1 2
-      → (accepted n s ≡ partOf s) × Shows (accepted n s) s
+  pub part-accepted : readyVerdict s ≡ Accepted → {n : ℕ} → n ≡ cond (even (s .job .passes)) 1 2 → Promised s (accepted n s)
   part-accepted e q = rw q (by-verdict _ e)

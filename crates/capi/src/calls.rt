@@ -32,7 +32,8 @@ pub struct CollectedBy {
 pub(crate) fn load(job: Job, table: Table, file: &[u8], first: &mut [u8], second: &[u8]) -> LoadedBy
     ensures { λ r. ⌜ (r ≡ loadedBy (loadVerdict table (now (file .entry)) (at job (now (first .entry)) (now (second .entry))))
         (loadState table (now (file .entry)) (at job (now (first .entry)) (now (second .entry)))))
-        × (now (first .exit) ≡ loadState table (now (file .entry)) (at job (now (first .entry)) (now (second .entry))) .first) ⌝ }
+        × (now (first .exit) ≡ loadState table (now (file .entry)) (at job (now (first .entry)) (now (second .entry))) .first)
+        × (loadState table (now (file .entry)) (at job (now (first .entry)) (now (second .entry))) .second ≡ now (second .entry)) ⌝ }
 {
     let loaded = job::load_core(job, table, file, first, second);
     let answer = loaded.answer;
@@ -79,7 +80,9 @@ pub(crate) fn collect<'a>(
 ) -> CollectedBy
     ensures { λ r. ⌜ (r ≡ collectedBy (collectWritten (length (now (out .entry))) (at job (now (first .entry)) (now (second .entry))))
         (collectState (length (now (out .entry))) (at job (now (first .entry)) (now (second .entry)))))
-        × (now (out .exit) ≡ collectOutput (now (out .entry)) (at job (now (first .entry)) (now (second .entry)))) ⌝ }
+        × (now (out .exit) ≡ collectOutput (now (out .entry)) (at job (now (first .entry)) (now (second .entry))))
+        × (collectState (length (now (out .entry))) (at job (now (first .entry)) (now (second .entry))) .first ≡ now (first .entry))
+        × (collectState (length (now (out .entry))) (at job (now (first .entry)) (now (second .entry))) .second ≡ now (second .entry)) ⌝ }
 {
     let collected = job::collect_core(job, first, second, out);
     let answer = collected.answer;

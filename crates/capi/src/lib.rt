@@ -11,6 +11,7 @@ ghost use lib.ListN.{length};
 ghost use Rattle.capi.specs.Answers.{ofVerdict, ofTableRead, ofWritten, ofImageRead, ofPassed, ofFigured};
 ghost use Rattle.capi.specs.Part.{partOf, Shows};
 ghost use Rattle.filter.specs.Preview.{previewVerdict, previewArea};
+ghost use Rattle.history.specs.Call.{view, figures, stateOf};
 ghost use Rattle.history.specs.Collect.{collectWritten, collectOutput, collectState};
 ghost use Rattle.history.specs.Load.{loadVerdict, loadState};
 ghost use Rattle.history.specs.Pass.{passOf};
@@ -146,7 +147,8 @@ pub extern "C" fn mask_load(
 ) -> Checked
     ensures { λ r. ⌜ (r ≡ ofVerdict (loadVerdict table (now (file .entry)) (at (now (job .entry)) (now (first .entry)) (now (second .entry)))))
         × (now (job .exit) ≡ loadState table (now (file .entry)) (at (now (job .entry)) (now (first .entry)) (now (second .entry))) .job)
-        × (now (first .exit) ≡ loadState table (now (file .entry)) (at (now (job .entry)) (now (first .entry)) (now (second .entry))) .first) ⌝ }
+        × (now (first .exit) ≡ loadState table (now (file .entry)) (at (now (job .entry)) (now (first .entry)) (now (second .entry))) .first)
+        × (loadState table (now (file .entry)) (at (now (job .entry)) (now (first .entry)) (now (second .entry))) .second ≡ now (second .entry)) ⌝ }
 {
     let s = calls::load(*job, table, file, first, second);
     *job = s.job;
@@ -181,7 +183,8 @@ pub extern "C" fn mask_run(job: &mut Job, first: &mut [u8], second: &mut [u8]) -
 #[no_mangle]
 pub extern "C" fn mask_view<'a>(job: Job, first: &'a [u8], second: &'a [u8]) -> Part
     ensures { λ r. ⌜ (r ≡ partOf (at job (now (first .entry)) (now (second .entry))))
-        × Shows r (at job (now (first .entry)) (now (second .entry))) ⌝ }
+        × Shows r (at job (now (first .entry)) (now (second .entry)))
+        × (stateOf view (at job (now (first .entry)) (now (second .entry))) ≡ at job (now (first .entry)) (now (second .entry))) ⌝ }
 {
     let checked = job::view_verdict(job, first, second);
     match checked {
@@ -209,7 +212,8 @@ fn holder(passes: usize) -> u32
 
 #[no_mangle]
 pub extern "C" fn mask_figures<'a>(job: Job, first: &'a [u8], second: &'a [u8]) -> FiguresAnswer
-    ensures { λ r. ⌜ r ≡ ofFigured (figuresOf (at job (now (first .entry)) (now (second .entry)))) ⌝ }
+    ensures { λ r. ⌜ (r ≡ ofFigured (figuresOf (at job (now (first .entry)) (now (second .entry)))))
+        × (stateOf figures (at job (now (first .entry)) (now (second .entry))) ≡ at job (now (first .entry)) (now (second .entry))) ⌝ }
 {
     answers::of_figured(job::figures(job, first, second))
 }
@@ -223,7 +227,9 @@ pub extern "C" fn mask_collect<'a>(
 ) -> FileLength
     ensures { λ r. ⌜ (r ≡ ofWritten (collectWritten (length (now (out .entry))) (at (now (job .entry)) (now (first .entry)) (now (second .entry)))))
         × (now (job .exit) ≡ collectState (length (now (out .entry))) (at (now (job .entry)) (now (first .entry)) (now (second .entry))) .job)
-        × (now (out .exit) ≡ collectOutput (now (out .entry)) (at (now (job .entry)) (now (first .entry)) (now (second .entry)))) ⌝ }
+        × (now (out .exit) ≡ collectOutput (now (out .entry)) (at (now (job .entry)) (now (first .entry)) (now (second .entry))))
+        × (collectState (length (now (out .entry))) (at (now (job .entry)) (now (first .entry)) (now (second .entry))) .first ≡ now (first .entry))
+        × (collectState (length (now (out .entry))) (at (now (job .entry)) (now (first .entry)) (now (second .entry))) .second ≡ now (second .entry)) ⌝ }
 {
     let s = calls::collect(*job, first, second, out);
     *job = s.job;

@@ -3,18 +3,23 @@
 use mathlib.Core.Bool.{true}
 use mathlib.Core.List.{List}
 use mathlib.Core.Path.{_≡_}
-use Prim.Native.Nat.{ℕ, suc, _+_, _*_, _≤_, _<_}
+use Prim.Native.Nat.{ℕ, suc, _+_, _-_, _*_, _≤_, _<_}
 use lib.ListN.{length, getD}
 use Rattle.filter.proofs.Counts.{all-counts}
 use Rattle.filter.proofs.Exchange.{exchange-passes}
 use Rattle.filter.proofs.Heijmans.{all-heijmans}
+use Rattle.filter.proofs.Kept.{opened-kept}
 use Rattle.filter.proofs.Order.{order-passes}
+use Rattle.filter.proofs.PassCodeApplied.{all-again}
+use Rattle.filter.proofs.PreviewPlain.{preview-plain}
 use Rattle.filter.proofs.Rest.{all-rest}
 use Rattle.filter.proofs.SingleChange.{single-change}
+use Rattle.filter.specs.Applied.{filtered, filteredArea, again, againArea}
 use Rattle.filter.specs.Heijmans.{psi, modified}
 use Rattle.filter.specs.Image.{IsImage, black, added, removed, differs, differsAt, exchange}
-use Rattle.filter.specs.Pass.{pass, passes}
+use Rattle.filter.specs.Pass.{opened, held, pass, passes}
 use Rattle.filter.specs.Plain.{plain}
+use Rattle.filter.specs.Preview.{preview, medianTable}
 use Rattle.filter.specs.Rest.{rested}
 use Rattle.morph.specs.Bound.{total}
 use Rattle.seq.specs.Lists.{count}
@@ -32,6 +37,10 @@ module _ (t : Table) (w h : ℕ) (img : List ℕ) (ok : recordVerdict t ≡ Acce
 
   pub plain-is-psi : plain t w h img ≡ psi t w h img
   plain-is-psi = all-heijmans t w h img ok i .plain-psi
+
+  -- an opened pixel never changes
+  pub opened-stays : (v r c : ℕ) → v ≤ 1 → r < h → c < w → opened t w h img v r c ≡ true → held t w h img (1 - v) r c ≡ false
+  opened-stays = opened-kept t w h img ok i
 
   pub changes-once : (k m n : ℕ) → differsAt (passes t w h m img) (passes t w h (suc m) img) k ≡ true
       → differsAt (passes t w h n img) (passes t w h (suc n) img) k ≡ true → m ≡ n
@@ -71,3 +80,15 @@ module _ (t : Table) (w h : ℕ) (img : List ℕ) (ok : recordVerdict t ≡ Acce
 
     pub rest-ordered : (k : ℕ) → k < length (rested t w h img) → getD (rested t w h img) k 0 ≤ getD (rested t w h other) k 0
     rest-ordered = all-rest t w h ok .ordered img other i j below
+
+-- the preview is the plain rule of the 56 five-point subsets of the eight neighbours
+pub preview-is-plain : (w h : ℕ) (img : List ℕ) → IsImage w h img → preview w h img ≡ plain medianTable w h img
+preview-is-plain = preview-plain
+
+-- a pass over slices with a table that was judged before
+module _ (t : Table) (w h : ℕ) (px area : List ℕ) (ok : recordVerdict t ≡ Accepted) where
+  pub again-answers : again t w h px (length area) ≡ filtered t w h px (length area)
+  again-answers = all-again t w h px area ok .answer
+
+  pub again-fills : againArea t w h px area ≡ filteredArea t w h px area
+  again-fills = all-again t w h px area ok .left

@@ -39,6 +39,10 @@ module _ {S : Type 0} (𝓢 : System S) (law : Lawful 𝓢) (X Y : Image S) (p :
   pub rests : (sites : List S) → Listed 𝓢 sites → (q : S) → next 𝓢 (rested 𝓢 sites X) q ≡ rested 𝓢 sites X q
   rests sites listed = rest law listed .reached X
 
+  pub stays : (sites : List S) → Listed 𝓢 sites → (n m : ℕ) → ((q : S) → next 𝓢 (iterate 𝓢 n X) q ≡ iterate 𝓢 n X q) → n ≤ m
+      → iterate 𝓢 m X p ≡ iterate 𝓢 n X p
+  stays sites listed n m stable later = rest law listed .stays X n m stable later p
+
   pub rests-first : (sites : List S) → Listed 𝓢 sites → (n : ℕ) → ((q : S) → next 𝓢 (iterate 𝓢 n X) q ≡ iterate 𝓢 n X q)
       → rested 𝓢 sites X p ≡ iterate 𝓢 n X p
   rests-first sites listed n stable = rest law listed .first X n stable p

@@ -1,5 +1,4 @@
 -- What a pass checks before it starts.
---     most-above, most-below     the largest pixel so far, and one pixel more
 --     ranged-of, ranged-count, ranged-valid    the table's ranges
 --     accepted-ranged            an accepted table is in range
 --     elements-part, map-part, map-length    elements and opening map, as parts of longer arrays
@@ -26,29 +25,6 @@ use Rattle.verdict.specs.Writer.{over}
 use Rattle.filter.specs.OpeningMap.{openMap}
 use Rattle.filter.specs.Walk.{ranged}
 use Rattle.filter.proofs.Accepted.{count-most, element-valid}
-
-module _ (l : List ℕ) (i m : ℕ) (h : i < length l) where
-  abbrev binary : List ℕ → Bool
-  binary k = all (λ v. leb v 1) k
-
-  next : (leb m 1 && binary (drop i l)) ≡ (leb m 1 && (leb (getD l i 0) 1 && binary (drop (i + 1) l)))
-  next = rw (add-one, drop-cons l i 0)
-
-  -- a pixel above the largest so far is the largest
-  pub most-above : {n : ℕ} → m < getD l i 0 → n ≡ getD l i 0 → (leb m 1 && binary (drop i l)) ≡ (leb n 1 && binary (drop (i + 1) l))
-  most-above {n} a e = next ∙ rw e (step (leb (getD l i 0) 1) refl)
-    where
-      step : (b : Bool) → leb (getD l i 0) 1 ≡ b → (leb m 1 && (b && binary (drop (i + 1) l))) ≡ (b && binary (drop (i + 1) l))
-      step true q = simp (le-leb m 1 (omega (arith, leb-true)))
-      step false q = and-false (leb m 1)
-
-  -- after another the largest is the same
-  pub most-below : {n : ℕ} → getD l i 0 ≤ m → n ≡ m → (leb m 1 && binary (drop i l)) ≡ (leb n 1 && binary (drop (i + 1) l))
-  most-below {n} a e = next ∙ rw e (step (leb m 1) refl)
-    where
-      step : (b : Bool) → leb m 1 ≡ b → (b && (leb (getD l i 0) 1 && binary (drop (i + 1) l))) ≡ (b && binary (drop (i + 1) l))
-      step true q = simp (le-leb (getD l i 0) 1 (omega (arith, leb-true)))
-      step false q = refl
 
 -- the table's ranges, from its count and its element places
 pub ranged-of : (t : Table) {es : List ℕ} {b : Bool} → t .count ≤ 64 → es ≡ t .elements → b ≡ all validMask (take (t .count) es) → b ≡ ranged t

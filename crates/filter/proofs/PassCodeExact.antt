@@ -1,9 +1,10 @@
--- The walk by the opening map is one pass, for an accepted table and an image.
+-- What the walk by the opening map gives; for an accepted table it is one pass.
 --     code-at          the map's value at a pixel
 --     code-opened      it is the code of v exactly where the pixel is opened for v
---     turns-held       a pixel turns exactly when it is held for the other value
---     walked-pass      the image after the walk is the image after the pass
---     steps-added, steps-removed     so are the counts
+--     turns-switches   a pixel turns exactly when it is not opened for its own value, and is held for the other
+--     walked-switched  so is the image after the walk
+--     steps-added, steps-removed     and its counts
+--     switched-pass    for an accepted table it is the image after one pass
 -- Assumes nothing.
 use mathlib.Core.Bool.{Bool, true, false, cond, not, _&&_}
 use mathlib.Core.List.{List, List·Memᴰ}
@@ -21,6 +22,7 @@ use Rattle.table.specs.declared.Table.{Table}
 use Rattle.table.specs.Mask.{across, down, positions}
 use Rattle.table.specs.Record.{masks, recordVerdict}
 use Rattle.verdict.specs.declared.Verdict.the-variants.{Accepted}
+use Rattle.filter.specs.Applied.{switches, switchedAt, switched}
 use Rattle.filter.specs.Elements.{matched}
 use Rattle.filter.specs.Image.{pixel, IsImage, added, removed}
 use Rattle.filter.specs.OpeningMap.{openCode, openMap}
@@ -45,7 +47,7 @@ code-of false false zero l h = refl
 code-of false false (suc zero) l h = refl
 code-of false false (suc (suc v)) l h = absurd (omega arith)
 
-module _ (t : Table) (w h : ℕ) (img : List ℕ) (ok : recordVerdict t ≡ Accepted) (m : IsImage w h img) where
+module _ (t : Table) (w h : ℕ) (img : List ℕ) (m : IsImage w h img) where
   abbrev codes : List ℕ
   codes = openMap t w h img
 
@@ -56,7 +58,7 @@ module _ (t : Table) (w h : ℕ) (img : List ℕ) (ok : recordVerdict t ≡ Acce
   -- no pixel is opened for both values
   apart : (r c : ℕ) → r < h → c < w → opened t w h img 0 r c ≡ true → opened t w h img 1 r c ≡ true → ⊥
   apart r c i j a b =
-      omega (arith, opened-pixel t w h img ok m 0 r c (omega arith) i j a, opened-pixel t w h img ok m 1 r c (omega arith) i j b)
+      omega (arith, opened-pixel t w h img 0 r c a, opened-pixel t w h img 1 r c b)
 
   pub code-opened : (v r c : ℕ) → v ≤ 1 → r < h → c < w → eqb (openCode t w h img r c) (v + 1) ≡ opened t w h img v r c
   unfolding openCode
@@ -67,7 +69,7 @@ module _ (t : Table) (w h : ℕ) (img : List ℕ) (ok : recordVerdict t ≡ Acce
   module _ (r c : ℕ) (i : r < h) (j : c < w) where
     -- a pixel is opened for no value but its own
     other-closed : (v : ℕ) → v ≤ 1 → (pixel w img r c ≡ v → ⊥) → opened t w h img v r c ≡ false
-    other-closed v l n = not-true-false (opened t w h img v r c) (λ o. n (opened-pixel t w h img ok m v r c l i j o))
+    other-closed v l n = not-true-false (opened t w h img v r c) (λ o. n (opened-pixel t w h img v r c o))
 
     -- so the map is 0 where the pixel is not opened for its own value
     code-own : (v : ℕ) → v ≤ 1 → pixel w img r c ≡ v → eqb (openCode t w h img r c) 0 ≡ not (opened t w h img v r c)
@@ -99,58 +101,71 @@ module _ (t : Table) (w h : ℕ) (img : List ℕ) (ok : recordVerdict t ≡ Acce
             ap (λ (x : ℕ). eqb x (v + 1)) (window-at w h codes r c n q ∙ code-at (siteRow h r n) (siteCol w c n) a b)
             ∙ code-opened v (siteRow h r n) (siteCol w c n) l a b
 
-    pub turns-held : turns (masks t) w h codes r c (pixel w img r c) ≡ held t w h img (1 - pixel w img r c) r c
-    unfolding turns
-    turns-held = ap₂ _&&_ (ap (λ (x : ℕ). eqb x 0) (code-at r c i j) ∙ code-own v low refl) other ∙ joined (opened t w h img v r c) refl
+    pub turns-switches : turns (masks t) w h codes r c (pixel w img r c) ≡ switches t w h img r c
+    unfolding turns switches
+    turns-switches = ap₂ _&&_ (ap (λ (x : ℕ). eqb x 0) (code-at r c i j) ∙ code-own (pixel w img r c) low refl) other
       where
-        v : ℕ
-        v = pixel w img r c
-
         low : pixel w img r c ≤ 1
         low = binary-at img (r * w + c) (m .binary)
 
         other : matched (masks t) (window w h codes r c) (2 - pixel w img r c) ≡ held t w h img (1 - pixel w img r c) r c
         other = ap (matched (masks t) (window w h codes r c)) (omega (arith, low)) ∙ matched-held (1 - pixel w img r c) (omega arith)
 
-        -- an opened pixel is not held against its value
-        joined : (b : Bool) → opened t w h img (pixel w img r c) r c ≡ b → (not b && held t w h img (1 - pixel w img r c) r c) ≡ held t w h img (1 - pixel w img r c) r c
-        joined true e = sym (opened-kept t w h img ok m (pixel w img r c) r c low i j e)
-        joined false e = refl
-
-    walked-at : walkedAt (masks t) w h img codes r c ≡ passAt t w h img r c
-    unfolding walkedAt passAt
-    walked-at = ap (λ (b : Bool). cond b (1 - pixel w img r c) (pixel w img r c)) turns-held
+    walked-at : walkedAt (masks t) w h img codes r c ≡ switchedAt t w h img r c
+    unfolding walkedAt switchedAt
+    walked-at = ap (λ (b : Bool). cond b (1 - pixel w img r c) (pixel w img r c)) turns-switches
 
   -- at every index
-  walked-index : (k : ℕ) → k < w * h → walkedAt (masks t) w h img codes (k / w) (k % w) ≡ passAt t w h img (k / w) (k % w)
+  walked-index : (k : ℕ) → k < w * h → walkedAt (masks t) w h img codes (k / w) (k % w) ≡ switchedAt t w h img (k / w) (k % w)
   walked-index =
-      by-cell w h (λ k. walkedAt (masks t) w h img codes (k / w) (k % w) ≡ passAt t w h img (k / w) (k % w))
-      (λ r c i j. grid-at w (walkedAt (masks t) w h img codes) r c j ∙ walked-at r c i j ∙ sym (grid-at w (passAt t w h img) r c j))
+      by-cell w h (λ k. walkedAt (masks t) w h img codes (k / w) (k % w) ≡ switchedAt t w h img (k / w) (k % w))
+      (λ r c i j. grid-at w (walkedAt (masks t) w h img codes) r c j ∙ walked-at r c i j ∙ sym (grid-at w (switchedAt t w h img) r c j))
 
-  pub walked-pass : walked (masks t) w h img codes ≡ pass t w h img
-  unfolding walked pass
-  walked-pass = tab-ext (λ k. walkedAt (masks t) w h img codes (k / w) (k % w)) (λ k. passAt t w h img (k / w) (k % w)) (w * h) walked-index
+  pub walked-switched : walked (masks t) w h img codes ≡ switched t w h img
+  unfolding walked switched
+  walked-switched = tab-ext (λ k. walkedAt (masks t) w h img codes (k / w) (k % w)) (λ k. switchedAt t w h img (k / w) (k % w)) (w * h) walked-index
 
   step-at : (u v k : ℕ) → List·Memᴰ k (upTo (w * h))
-      → (eqb (getD img k 0) u && eqb (walkedAt (masks t) w h img codes (k / w) (k % w)) v) ≡ (eqb (getD img k 0) u && eqb (getD (pass t w h img) k 0) v)
-  unfolding pass
+      → (eqb (getD img k 0) u && eqb (walkedAt (masks t) w h img codes (k / w) (k % w)) v) ≡ (eqb (getD img k 0) u && eqb (getD (switched t w h img) k 0) v)
+  unfolding switched
   step-at u v k q =
       let l = upTo-elim (w * h) q in
       ap (λ (x : ℕ). eqb (getD img k 0) u && eqb x v)
-      (walked-index k l ∙ sym (getD-tab (λ k. passAt t w h img (k / w) (k % w)) (w * h) k 0 l))
+      (walked-index k l ∙ sym (getD-tab (λ k. switchedAt t w h img (k / w) (k % w)) (w * h) k 0 l))
 
-  steps-pass : (u v : ℕ)
-      → steps (masks t) w h img codes u v (w * h) ≡ count (λ k. eqb (getD img k 0) u && eqb (getD (pass t w h img) k 0) v) (upTo (length img))
+  steps-switched : (u v : ℕ)
+      → steps (masks t) w h img codes u v (w * h) ≡ count (λ k. eqb (getD img k 0) u && eqb (getD (switched t w h img) k 0) v) (upTo (length img))
   unfolding steps
-  steps-pass u v =
+  steps-switched u v =
       count-ext (λ k. eqb (getD img k 0) u && eqb (walkedAt (masks t) w h img codes (k / w) (k % w)) v)
-      (λ k. eqb (getD img k 0) u && eqb (getD (pass t w h img) k 0) v) (upTo (w * h)) (step-at u v)
-      ∙ ap (λ (n : ℕ). count (λ k. eqb (getD img k 0) u && eqb (getD (pass t w h img) k 0) v) (upTo n)) (sym (m .sized))
+      (λ k. eqb (getD img k 0) u && eqb (getD (switched t w h img) k 0) v) (upTo (w * h)) (step-at u v)
+      ∙ ap (λ (n : ℕ). count (λ k. eqb (getD img k 0) u && eqb (getD (switched t w h img) k 0) v) (upTo n)) (sym (m .sized))
 
-  pub steps-added : steps (masks t) w h img codes 0 1 (w * h) ≡ added img (pass t w h img)
+  pub steps-added : steps (masks t) w h img codes 0 1 (w * h) ≡ added img (switched t w h img)
   unfolding added
-  steps-added = steps-pass 0 1
+  steps-added = steps-switched 0 1
 
-  pub steps-removed : steps (masks t) w h img codes 1 0 (w * h) ≡ removed img (pass t w h img)
+  pub steps-removed : steps (masks t) w h img codes 1 0 (w * h) ≡ removed img (switched t w h img)
   unfolding removed
-  steps-removed = steps-pass 1 0
+  steps-removed = steps-switched 1 0
+
+  -- with an accepted table an opened pixel is not held against its value
+  module _ (ok : recordVerdict t ≡ Accepted) where
+    switches-held : (r c : ℕ) → r < h → c < w → switches t w h img r c ≡ held t w h img (1 - pixel w img r c) r c
+    unfolding switches
+    switches-held r c i j = by (opened t w h img (pixel w img r c) r c) refl
+      where
+        by : (b : Bool) → opened t w h img (pixel w img r c) r c ≡ b → (not b && held t w h img (1 - pixel w img r c) r c) ≡ held t w h img (1 - pixel w img r c) r c
+        by true e = sym (opened-kept t w h img ok m (pixel w img r c) r c (binary-at img (r * w + c) (m .binary)) i j e)
+        by false e = refl
+
+    switched-at : (r c : ℕ) → r < h → c < w → switchedAt t w h img r c ≡ passAt t w h img r c
+    unfolding switchedAt passAt
+    switched-at r c i j = ap (λ (b : Bool). cond b (1 - pixel w img r c) (pixel w img r c)) (switches-held r c i j)
+
+    pub switched-pass : switched t w h img ≡ pass t w h img
+    unfolding switched pass
+    switched-pass =
+        tab-ext (λ k. switchedAt t w h img (k / w) (k % w)) (λ k. passAt t w h img (k / w) (k % w)) (w * h)
+        (by-cell w h (λ k. switchedAt t w h img (k / w) (k % w) ≡ passAt t w h img (k / w) (k % w))
+        (λ r c i j. grid-at w (switchedAt t w h img) r c j ∙ switched-at r c i j ∙ sym (grid-at w (passAt t w h img) r c j)))

@@ -1,38 +1,70 @@
--- One pass over slices, for callers that have judged table and pixels: what it promises.
---     sizeVerdict w h n m     10, 11 on n pixel bytes, 13 on an area of m bytes
---     Applied t w h px before after r     answer and area afterwards
+-- One pass over slices: what it answers, and what it leaves in the area that it fills.
+--     countsAs v px next            the counts from px to next, or the refusal
+--     passVerdict t w h px n        the table's rules; 10, 11, 12 on the pixel bytes; 13 on an area of n bytes
+--     filtered t w h px n           the answer of `pass`; filteredArea t w h px area: the area afterwards
+--     switched t w h img            as one pass, but a pixel that is opened for its own value stays
+--     againVerdict t w h px n       as `passVerdict`, but of the table only the ranges are judged
+--     again t w h px n              the answer of `again`; againArea t w h px area: the area afterwards
+--     Again                         for an accepted table, `again` is `pass`
 -- Assumes nothing.
-use mathlib.Core.Bool.{true, not}
+use mathlib.Core.Bool.{Bool, cond, not, _&&_}
 use mathlib.Core.List.{List, [], _∷_}
 use mathlib.Core.Path.{_≡_}
-use Prim.Native.Nat.{ℕ, _*_}
-use lib.Dec.{leb, eqb}
-use lib.ListN.{length, drop}
+use Prim.Native.Nat.{ℕ, _-_, _*_, _/_, _%_}
+use lib.ListN.{length}
 use Rattle.filter.specs.declared.Filtered.{Filtered}
-use Rattle.filter.specs.declared.Filtered.the-variants.{Counts, Refused}
-use Rattle.filter.specs.Image.{added, removed}
-use Rattle.filter.specs.Pass.{pass}
-use Rattle.image.specs.File.{areaRule}
-use Rattle.image.specs.Size.{badSize}
-use Rattle.seq.specs.Lists.{all}
+use Rattle.filter.specs.declared.Filtered.the-variants as filtering
+use Rattle.filter.specs.Image.{pixel, added, removed}
+use Rattle.filter.specs.Pass.{opened, held, pass}
+use Rattle.filter.specs.Walk.{ranged}
+use Rattle.image.specs.File.{pixelVerdict, areaRule}
+use Rattle.seq.specs.Tab.{tab}
 use Rattle.table.specs.declared.Table.{Table}
 use Rattle.table.specs.Record.{recordVerdict}
-use Rattle.verdict.specs.declared.Refusal.{Refusal}
-use Rattle.verdict.specs.declared.Verdict as verdict
-use Rattle.verdict.specs.declared.Verdict.the-variants as judged
-use Rattle.verdict.specs.Rules.{refuseIf, judge}
-use Rattle.verdict.specs.Writer.{over}
+use Rattle.verdict.specs.declared.Verdict.{Verdict}
+use Rattle.verdict.specs.declared.Verdict.the-variants.{Accepted, Refused}
+use Rattle.verdict.specs.Rules.{judge}
+use Rattle.verdict.specs.Writer.{outputOf}
 
-unfoldable pub sizeVerdict : ℕ → ℕ → ℕ → ℕ → verdict.Verdict
-sizeVerdict w h n m = judge (refuseIf (badSize w h) 10 0 ∷ refuseIf (not (eqb n (w * h))) 11 0 ∷ areaRule w h m ∷ [])
+abbrev pub countsAs : Verdict → List ℕ → List ℕ → Filtered
+countsAs Accepted px next = filtering.Counts (added px next) (removed px next)
+countsAs (Refused r) px next = filtering.Refused r
 
-pub record Applied (t : Table) (w h : ℕ) (px before after : List ℕ) (r : Filtered) : Type 0 where
-  -- a refusal alters nothing
-  pub refused : (x : Refusal) → sizeVerdict w h (length px) (length before) ≡ judged.Refused x → (r ≡ Refused x) × (after ≡ before)
-  -- an accepted table on pixels of value 0 and 1: the operator's image and its counts
-  pub exact : sizeVerdict w h (length px) (length before) ≡ judged.Accepted → recordVerdict t ≡ judged.Accepted
-      → all (λ v. leb v 1) px ≡ true
-      → (r ≡ Counts (added px (pass t w h px)) (removed px (pass t w h px))) × (after ≡ over (pass t w h px) before)
-  -- for any other table and pixels the counts and the first w × h bytes are free; nothing else of the area changes
-  pub free : sizeVerdict w h (length px) (length before) ≡ judged.Accepted
-      → (a : ℕ) × (d : ℕ) × (r ≡ Counts a d) × (length after ≡ length before) × (drop (w * h) after ≡ drop (w * h) before)
+unfoldable pub passVerdict : Table → ℕ → ℕ → List ℕ → ℕ → Verdict
+passVerdict t w h px n = judge (recordVerdict t ∷ pixelVerdict w h px ∷ areaRule w h n ∷ [])
+
+unfoldable pub filtered : Table → ℕ → ℕ → List ℕ → ℕ → Filtered
+filtered t w h px n = countsAs (passVerdict t w h px n) px (pass t w h px)
+
+unfoldable pub filteredArea : Table → ℕ → ℕ → List ℕ → List ℕ → List ℕ
+filteredArea t w h px area = outputOf (passVerdict t w h px (length area)) (pass t w h px) area
+
+-- the pixel changes: not opened for its own value v, and held for 1 − v
+unfoldable pub switches : Table → ℕ → ℕ → List ℕ → ℕ → ℕ → Bool
+switches t w h img r c = not (opened t w h img (pixel w img r c) r c) && held t w h img (1 - pixel w img r c) r c
+
+unfoldable pub switchedAt : Table → ℕ → ℕ → List ℕ → ℕ → ℕ → ℕ
+switchedAt t w h img r c = cond (switches t w h img r c) (1 - pixel w img r c) (pixel w img r c)
+
+unfoldable pub switched : Table → ℕ → ℕ → List ℕ → List ℕ
+switched t w h img = tab (λ i. switchedAt t w h img (i / w) (i % w)) (w * h)
+
+-- a table whose count or a mask is out of range is refused by its own number
+unfoldable pub rangeVerdict : Table → Verdict
+rangeVerdict t = cond (ranged t) Accepted (recordVerdict t)
+
+unfoldable pub againVerdict : Table → ℕ → ℕ → List ℕ → ℕ → Verdict
+againVerdict t w h px n = judge (rangeVerdict t ∷ pixelVerdict w h px ∷ areaRule w h n ∷ [])
+
+unfoldable pub again : Table → ℕ → ℕ → List ℕ → ℕ → Filtered
+again t w h px n = countsAs (againVerdict t w h px n) px (switched t w h px)
+
+unfoldable pub againArea : Table → ℕ → ℕ → List ℕ → List ℕ → List ℕ
+againArea t w h px area = outputOf (againVerdict t w h px (length area)) (switched t w h px) area
+
+pub record Again (t : Table) (w h : ℕ) (px area : List ℕ) : Type 0 where
+  pub answer : again t w h px (length area) ≡ filtered t w h px (length area)
+  pub left : againArea t w h px area ≡ filteredArea t w h px area
+
+abbrev pub AllAgain : Type 0
+AllAgain = (t : Table) (w h : ℕ) (px area : List ℕ) → recordVerdict t ≡ Accepted → Again t w h px area

@@ -1,25 +1,22 @@
-// One pass over slices (01, One pass), for callers that have judged table and pixels.
+// One pass over slices (01, One pass): `pass` judges all that it is given; `again` is for callers that have judged the table.
 use crate::Filtered;
 use crate::opening;
 use crate::walk;
 use crate::walk::Tally;
 use table::Table;
-use verdict::Refusal;
 use verdict::Verdict;
 ghost use mathlib.Core.Bool.{true};
 ghost use mathlib.Core.Path.{_≡_};
 ghost use Prim.Native.Nat.{_*_, _≤_};
-ghost use lib.Dec.{leb};
 ghost use lib.ListN.{length};
-ghost use Rattle.filter.specs.Applied.{sizeVerdict, Applied};
+ghost use Rattle.filter.specs.Applied;
+ghost use Rattle.filter.specs.Applied.{filteredArea, againVerdict, againArea};
 ghost use Rattle.filter.specs.Image.{IsImage};
 ghost use Rattle.filter.specs.OpeningMap.{openMap};
 ghost use Rattle.filter.specs.Walk.{ranged, walked, Tallied};
-ghost use Rattle.image.specs.Size.{maxSide, within};
 ghost use Rattle.seq.specs.Lists.{all};
 ghost use Rattle.table.specs.Mask.{validMask};
 ghost use Rattle.table.specs.Record.{masks};
-ghost use Rattle.verdict.specs.Rules.{refusal};
 ghost use Rattle.verdict.specs.Writer.{over};
 
 const MAX_SIDE: usize = 256;
@@ -30,34 +27,48 @@ const MAX_ELEMENTS: usize = 64;
 
 const LARGEST_MASK: u32 = 33554431;
 
-const BLACK: u8 = 1;
-
-// The next image goes to the front of `next`. Refused by 10, 11 (the count of pixel bytes) and 13.
+// The next image goes to the front of `next`. Refused as the table's check refuses, then by 10, 11, 12 (the pixel bytes) and 13.
 pub fn pass(table: Table, width: usize, height: usize, pixels: &[u8], next: &mut [u8]) -> Filtered
-    ensures { λ r. ⌜ Applied table width height (now (pixels .entry)) (now (next .entry)) (now (next .exit)) r ⌝ }
+    ensures { λ r. ⌜ (r ≡ Applied.filtered table width height (now (pixels .entry)) (length (now (next .entry))))
+        × (now (next .exit) ≡ filteredArea table width height (now (pixels .entry)) (now (next .entry))) ⌝ }
 {
-    let sizes = check_sizes(width, height, pixels.len(), next.len());
-    if let Verdict::Refused(refusal) = sizes {
+    if let Verdict::Refused(refusal) = table::check(table) {
         return Filtered::Refused(refusal);
     }
-    // Of what was not judged nothing is promised, and nothing is written.
-    if !is_ranged(table) {
-        return Filtered::Counts {
-            added: 0,
-            removed: 0,
-        };
-    }
-    if !is_binary(pixels) {
-        return Filtered::Counts {
-            added: 0,
-            removed: 0,
-        };
+    again(table, width, height, pixels, next)
+}
+
+// A pass with a table that was judged before. Of the table only the ranges are looked at; for an accepted one it is `pass`.
+pub fn again(table: Table, width: usize, height: usize, pixels: &[u8], next: &mut [u8]) -> Filtered
+    ensures { λ r. ⌜ (r ≡ Applied.again table width height (now (pixels .entry)) (length (now (next .entry))))
+        × (now (next .exit) ≡ againArea table width height (now (pixels .entry)) (now (next .entry))) ⌝ }
+{
+    let checked = check(table, width, height, pixels, next.len());
+    if let Verdict::Refused(refusal) = checked {
+        return Filtered::Refused(refusal);
     }
     let tally = filtered(table, width, height, pixels, next);
     Filtered::Counts {
         added: tally.added,
         removed: tally.removed,
     }
+}
+
+// What `again` refuses: a table that is out of range, by its own number; 10, 11, 12; 13.
+fn check(table: Table, width: usize, height: usize, pixels: &[u8], area: usize) -> Verdict
+    ensures { λ r. ⌜ r ≡ againVerdict table width height (now (pixels .entry)) area ⌝ }
+{
+    if !is_ranged(table) {
+        return table::check(table);
+    }
+    let checked = image::check_pixels(width, height, pixels);
+    if let Verdict::Refused(refusal) = checked {
+        return Verdict::Refused(refusal);
+    }
+    if area < width * height {
+        return verdict::refused(verdict::AREA_SHORT, 0);
+    }
+    Verdict::Accepted
 }
 
 fn filtered(table: Table, width: usize, height: usize, pixels: &[u8], next: &mut [u8]) -> Tally
@@ -92,21 +103,6 @@ fn blank() -> [u8; MAX_PIXELS] {
     [0u8; MAX_PIXELS]
 }
 
-fn check_sizes(width: usize, height: usize, pixels: usize, area: usize) -> Verdict
-    ensures { λ r. ⌜ r ≡ sizeVerdict width height pixels area ⌝ }
-{
-    if image::size::is_bad(width, height) {
-        return verdict::refused(verdict::SIZE_RANGE, 0);
-    }
-    if pixels != width * height {
-        return verdict::refused(verdict::RASTER_LENGTH, 0);
-    }
-    if area < width * height {
-        return verdict::refused(verdict::AREA_SHORT, 0);
-    }
-    Verdict::Accepted
-}
-
 fn is_ranged(table: Table) -> bool
     ensures { λ r. ⌜ r ≡ ranged table ⌝ }
 {
@@ -135,20 +131,4 @@ fn is_valid(mask: u32) -> bool
     ensures { λ r. ⌜ r ≡ validMask mask ⌝ }
 {
     1 <= mask && mask <= LARGEST_MASK
-}
-
-// Every pixel byte is 0 or 1: the largest is.
-fn is_binary(pixels: &[u8]) -> bool
-    ensures { λ r. ⌜ r ≡ all (λ v. leb v 1) (now (pixels .entry)) ⌝ }
-{
-    let mut most = 0;
-    let mut i = 0;
-    while i < pixels.len() {
-        let value = pixels[i];
-        if most < value {
-            most = value;
-        }
-        i += 1;
-    }
-    most <= BLACK
 }

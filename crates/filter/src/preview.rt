@@ -85,7 +85,15 @@ fn answer(win: [[u8; 5]; 5]) -> u8
     ensures { λ r. ⌜ r ≡ fiveOrMore (pattern win) ⌝ }
 {
     let nine = three(win[1]) + 8 * three(win[2]) + 64 * three(win[3]);
-    ANSWERS[nine]
+    let table = answers();
+    table[nine]
+}
+
+// The rule of the 512 answers, as one computed test over the table.
+fn answers() -> [u8; 512]
+    ensures { λ r. ⌜ r ≡ tab fiveOrMore 512 ⌝ }
+{
+    ANSWERS
 }
 
 // The three pixels in the middle of a row, as bits.

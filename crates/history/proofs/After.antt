@@ -9,23 +9,26 @@ use mathlib.Core.Path.{_≡_, refl, sym, ap, _∙_, subst}
 use Prim.Native.Nat.{ℕ}
 use native.Mathlib.Omega.{arith}
 use Rattle.history.specs.declared.Job.{Job}
-use Rattle.history.specs.Call.{Call, answerOf, refusalOf}
 use Rattle.history.specs.Demand3.{Agrees, RunAsPasses, AfterList}
-use Rattle.history.specs.History.{Entry, History, empty, holds, refusedBy}
+use Rattle.history.specs.History.{Entry, History, empty, holds, Lengths}
 use Rattle.history.specs.Lists.{Course, lengthsOf}
 use Rattle.history.specs.State.{State, emptyJob}
 use Rattle.history.proofs.Never14.{never-14}
-use Rattle.history.proofs.Refused.{refused, unaltered}
+use Rattle.history.proofs.Pass.{last-image}
+use Rattle.history.proofs.Refused.{answered, refused, unaltered}
 use Rattle.history.proofs.Related.{stageOf, Held, RelatedTo, Related}
 use Rattle.history.proofs.Row.{row-bound, row-single, row-balance}
 use Rattle.history.proofs.Run.{run-as-passes}
-use Rattle.history.proofs.View.{view-held, operated}
+use Rattle.history.proofs.View.{view-held, operated-held}
 
 pub agrees : {s : State} {e : Entry} {n : ℕ} → Held s e n → Agrees s e
 agrees {s} r = record {
   table = ap (λ (j : Job). j .table) (r .job);
   width = ap (λ (j : Job). j .width) (r .job);
   height = ap (λ (j : Job). j .height) (r .job);
+  accepted = r .accepted;
+  sized = r .sized;
+  image = last-image r;
   view = view-held r;
   passes = ap (λ (j : Job). j .passes) (r .job);
   added = ap (λ (j : Job). j .added) (r .job);
@@ -76,17 +79,17 @@ run-from w r e q =
     subst (λ (H : History). RunAsPasses (record { state = w .state; history = H; tally = w .tally }) e) (sym q)
     (run-as-passes (held w r e q))
 
-pub after-related : (w : Course) → Related w → AfterList w
-after-related w r = record {
+pub after-related : (n : Lengths) (w : Course) → Related w → lengthsOf (w .state) ≡ n → AfterList n w
+after-related n w r l = record {
+  lengths = l;
   stage-empty = stage-empty (w .state) (w .history) (w .tally) r;
   stage-settled = stage-settled (w .state) (w .history) (w .tally) r;
   agrees = λ e q. agrees (held w r e q);
-  operated = λ e q. operated (held w r e q);
+  operated = λ e q. operated-held (held w r e q);
+  passed = λ e q. let h = held w r e q in view-held h ∙ sym (h .tallied);
   run-as-passes = run-from w r;
-  refused = same;
-  never-14 = λ c x q. never-14 c (lengthsOf (w .state)) (w .history) x (sym (same c) ∙ q);
+  answered = λ c. rw l at (answered c (w .state) (w .history) (w .tally) r);
+  refused = λ c. rw l at (refused c (w .state) (w .history) (w .tally) r);
+  never-14 = λ c x q. never-14 c (lengthsOf (w .state)) (w .history) x (sym (refused c (w .state) (w .history) (w .tally) r) ∙ q);
   unaltered = λ c x. unaltered c (w .state) (w .history) (w .tally) x r;
 }
-  where
-    same : (c : Call) → refusalOf (answerOf c (w .state)) ≡ refusedBy c (lengthsOf (w .state)) (w .history)
-    same c = refused c (w .state) (w .history) (w .tally) r

@@ -29,7 +29,7 @@ unfolding collectVerdict refusedBy emptyJob
 collect-empty out s q = rw (sound-empty s q, q)
 
 module _ {s : State} {e : Entry} {n : ℕ} (r : Held s e n) where
-  collected-held : collected s ≡ imageBytes (e .width) (e .height) (e .last)
+  pub collected-held : collected s ≡ imageBytes (e .width) (e .height) (e .last)
   unfolding collected
   collected-held = rw (r .shown, r .job)
 

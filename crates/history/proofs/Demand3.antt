@@ -1,30 +1,37 @@
--- Demand 3.
---     demand-3       the claim about every list of calls
---     inside-runs    after each pass inside a run, too, all holds that holds after a list
+-- Demand 3 holds.
+--     after-list, inside     what holds after a list, and after each pass inside a run
+--     demand-3               the claim about every list of calls
 -- Assumes nothing.
-use mathlib.Core.List.{List}
+use mathlib.Core.List.{List, _++_}
+use mathlib.Core.Path.{sym, subst}
 use Prim.Native.Nat.{ℕ}
 use lib.ListN.{replicate}
 use Rattle.history.specs.Call.{Call, pass}
-use Rattle.history.specs.Demand3.{AfterList, Demand3, played}
-use Rattle.history.specs.Lists.{play}
+use Rattle.history.specs.Demand3.{AfterList, Demand3, played, lent}
+use Rattle.history.specs.Lists.{Course, start, play}
 use Rattle.history.proofs.After.{held, after-related}
-use Rattle.history.proofs.Lists.{passes-keep, played-related}
-use Rattle.history.proofs.Twins.{exchanged, ordered, reloaded}
+use Rattle.history.proofs.Lists.{played-related, played-lengths, play-append}
+use Rattle.history.proofs.Reload.{reloads}
+use Rattle.history.proofs.Twins.{exchanged, ordered, rests}
+
+after-list : (cs : List Call) (a b : List ℕ) → AfterList (lent a b) (played cs a b)
+after-list cs a b = after-related (lent a b) (played cs a b) (played-related cs a b) (played-lengths cs a b)
+
+-- the passes of a run after a list are a longer list
+inside : (cs : List Call) (a b : List ℕ) (k : ℕ) → AfterList (lent a b) (play (replicate k pass) (played cs a b))
+inside cs a b k =
+    subst (AfterList (lent a b)) (sym (play-append cs (replicate k pass) (start a b))) (after-list (cs ++ replicate k pass) a b)
 
 pub demand-3 : Demand3
 demand-3 = record {
-  after-list = λ cs a b. after-related (played cs a b) (played-related cs a b);
+  after-list = after-list;
+  inside = inside;
   exchanged = λ cs cs' a b a' b' e e' two.
       exchanged two (held (played cs a b) (played-related cs a b) e (two .here))
       (held (played cs' a' b') (played-related cs' a' b') e' (two .there));
   ordered = λ cs cs' a b a' b' e e' two.
       ordered two (held (played cs a b) (played-related cs a b) e (two .here))
       (held (played cs' a' b') (played-related cs' a' b') e' (two .there));
-  reloaded = λ cs a b e q. reloaded (held (played cs a b) (played-related cs a b) e q);
+  rests = λ cs a b e q. rests (held (played cs a b) (played-related cs a b) e q);
+  reloaded = λ cs a b out e m after q. reloads (played cs a b) (played-related cs a b) e q out;
 }
-
--- a run is passes called singly (`run-as-passes`), and this holds after each of them
-pub inside-runs : (cs : List Call) (a b : List ℕ) (k : ℕ) → AfterList (play (replicate k pass) (played cs a b))
-inside-runs cs a b k =
-    after-related (play (replicate k pass) (played cs a b)) (passes-keep k (played cs a b) (played-related cs a b))

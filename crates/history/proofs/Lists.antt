@@ -3,17 +3,20 @@
 --     pass-keeps, run-keeps, keeps  each call keeps it, accepted or refused
 --     passes-keep, play-related     so does a list
 --     played-related                so it holds after every list from an empty job
+--     played-lengths                and the areas have the lengths of the start
+--     play-append                   one list after another
 -- Assumes nothing.
-use mathlib.Core.List.{List, [], _∷_}
-use mathlib.Core.Path.{refl, subst⁻¹}
+use mathlib.Core.List.{List, [], _∷_, _++_}
+use mathlib.Core.Path.{_≡_, refl, _∙_, subst⁻¹}
 use Prim.Native.Nat.{ℕ, zero, suc}
 use lib.ListN.{replicate}
 use Rattle.history.specs.Call.{Call, load, pass, run, view, figures, collect, stateOf}
-use Rattle.history.specs.Demand3.{played}
+use Rattle.history.specs.Demand3.{played, lent}
 use Rattle.history.specs.History.{History, empty, holds, refusedBy, accepted, after}
-use Rattle.history.specs.Lists.{Course, start, tallied, step, play}
+use Rattle.history.specs.Lists.{Course, start, lengthsOf, tallied, step, play}
 use Rattle.history.specs.State.{State}
 use Rattle.history.proofs.Collect.{collect-keeps}
+use Rattle.history.proofs.Kept.{kept}
 use Rattle.history.proofs.Load.{load-keeps}
 use Rattle.history.proofs.Pass.{pass-held}
 use Rattle.history.proofs.Refused.{pass-empty, run-empty}
@@ -41,7 +44,7 @@ run-keeps s (holds e) n r =
     let a = run-as-passes r in
     subst⁻¹ Related (a .singly) (passes-keep (a .passes) (course s e n) r)
 
-keeps : (c : Call) (s : State) (H : History) (n : ℕ) → RelatedTo s H n → Kept c s H n
+pub keeps : (c : Call) (s : State) (H : History) (n : ℕ) → RelatedTo s H n → Kept c s H n
 unfolding step stateOf after refusedBy accepted tallied
 keeps (load t f) s H n r = load-keeps t f s H n r
 keeps pass s H n r = pass-keeps s H n r
@@ -52,10 +55,24 @@ keeps figures s empty n q = q
 keeps figures s (holds e) n r = r
 keeps (collect out) s H n r = collect-keeps out s H n r
 
-play-related : (cs : List Call) (w : Course) → Related w → Related (play cs w)
+pub play-related : (cs : List Call) (w : Course) → Related w → Related (play cs w)
 play-related [] w r = r
 play-related (c ∷ cs) w r = play-related cs (step c w) (keeps c (w .state) (w .history) (w .tally) r)
 
 pub played-related : (cs : List Call) (a b : List ℕ) → Related (played cs a b)
 unfolding start
 played-related cs a b = play-related cs (start a b) refl
+
+-- the areas keep the lengths that they have at the start
+play-lengths : (cs : List Call) (w : Course) → lengthsOf (play cs w .state) ≡ lengthsOf (w .state)
+unfolding step
+play-lengths [] w = refl
+play-lengths (c ∷ cs) w = play-lengths cs (step c w) ∙ kept c (w .state) .lengths
+
+pub played-lengths : (cs : List Call) (a b : List ℕ) → lengthsOf (played cs a b .state) ≡ lent a b
+played-lengths cs a b = play-lengths cs (start a b)
+
+-- one list after another
+pub play-append : (cs ds : List Call) (w : Course) → play ds (play cs w) ≡ play (cs ++ ds) w
+play-append [] ds w = refl
+play-append (c ∷ cs) ds w = play-append cs ds (step c w)

@@ -1,20 +1,18 @@
 -- No call of a list answers 14: the history refuses by other numbers only.
---     Free v                              v is no refusal by 14
---     free-if, free-at, free-or           rules and lists of rules with other numbers
---     free-record, free-file, free-call   the verdicts on tables and on files, and what the history says
---     never-14                            the claim
+--     inputNumbers, record-numbers, file-numbers, load-numbers     what a table and a file are refused by
+--     callNumbers, call-numbers                                    what the history refuses by
+--     never-14                                                     the claim
 -- Assumes nothing.
-use mathlib.Core.Bool.{Bool, true, false, not, _||_}
-use mathlib.Core.List.{List}
+use mathlib.Core.Bool.{true, not, _||_}
+use mathlib.Core.List.{List, [], _∷_}
 use mathlib.Core.Logic.{_≢_}
-use mathlib.Core.Option.{Option, none, some}
-use mathlib.Core.Path.{_≡_}
+use mathlib.Core.Path.{_≡_, refl}
 use Prim.Native.Nat.{ℕ, suc, _+_, _*_}
-use native.Mathlib.Omega.{arith}
 use lib.Dec.{ltb, eqb}
 use lib.ListN.{length}
 use Rattle.history.specs.Call.{Call, load, pass, run, view, figures, collect}
 use Rattle.history.specs.History.{History, empty, holds, Lengths, refusedBy}
+use Rattle.history.specs.Load.{areasRule}
 use Rattle.image.specs.File.{fileVerdict, paddingSet, imageBytes}
 use Rattle.image.specs.Header.{headerForm, widthOf, heightOf, raster}
 use Rattle.image.specs.Size.{badSize, rowBytes}
@@ -23,70 +21,57 @@ use Rattle.seq.specs.Tab.{first}
 use Rattle.table.specs.declared.Table.{Table}
 use Rattle.table.specs.Record.{maxElements, badCount, badPlace, badPersistent, disjointFrom, missing, recordVerdict}
 use Rattle.verdict.specs.declared.Refusal.{Refusal}
-use Rattle.verdict.specs.declared.Verdict.{Verdict}
-use Rattle.verdict.specs.declared.Verdict.the-variants.{Accepted, Refused}
-use Rattle.verdict.specs.Rules.{refusal, refuseIf, refuseAt, orElse}
+use Rattle.verdict.specs.declared.Verdict.the-variants.{Refused}
+use Rattle.verdict.specs.Numbers.{OneOf, accepts, refuses}
+use Rattle.verdict.specs.Rules.{judge}
+use Rattle.verdict.proofs.Numbers.{one-of-if, one-of-at, one-of-or, one-of-more, one-of-other}
 
-data Free : Verdict → Type 0 where
-  fine : Free Accepted
-  other : {r : Refusal} → r .number ≢ 14 → Free (Refused r)
+-- because of the input
+abbrev pub inputNumbers : List ℕ
+inputNumbers = 3 ∷ 4 ∷ 5 ∷ 6 ∷ 7 ∷ 9 ∷ 10 ∷ 11 ∷ 12 ∷ 13 ∷ []
 
-free-if : (b : Bool) (n p : ℕ) → n ≢ 14 → Free (refuseIf b n p)
-free-if true n p h = other h
-free-if false n p h = fine
+-- and because of the state, without 14
+abbrev callNumbers : List ℕ
+callNumbers = 15 ∷ 16 ∷ 17 ∷ inputNumbers
 
-free-at : (o : Option ℕ) (n : ℕ) (at : ℕ → ℕ) → n ≢ 14 → Free (refuseAt o n at)
-free-at none n at h = fine
-free-at (some k) n at h = other h
-
-free-or : {v w : Verdict} → Free v → Free w → Free (orElse v w)
-free-or fine y = y
-free-or (other h) y = other h
-
-free-record : (t : Table) → Free (recordVerdict t)
+record-numbers : (t : Table) → OneOf inputNumbers (recordVerdict t)
 unfolding recordVerdict
-free-record t =
-    free-or (free-if (badCount t) 3 0 (omega arith))
-    (free-or (free-at (first (badPlace t) maxElements) 4 suc (omega arith))
-    (free-or (free-if (badPersistent t) 6 (t .count + 1) (omega arith))
-    (free-or (free-at (first (λ k. isSome (disjointFrom t k)) (t .count)) 5 suc (omega arith))
-    (free-or (free-at (first (missing t) (t .count)) 7 suc (omega arith)) fine))))
+record-numbers t =
+    one-of-or (one-of-if (badCount t) 3 0 refl)
+    (one-of-or (one-of-at (first (badPlace t) maxElements) 4 suc refl)
+    (one-of-or (one-of-if (badPersistent t) 6 (t .count + 1) refl)
+    (one-of-or (one-of-at (first (λ k. isSome (disjointFrom t k)) (t .count)) 5 suc refl)
+    (one-of-or (one-of-at (first (missing t) (t .count)) 7 suc refl) accepts))))
 
-free-file : (f : List ℕ) → Free (fileVerdict f)
+file-numbers : (f : List ℕ) → OneOf inputNumbers (fileVerdict f)
 unfolding fileVerdict
-free-file f =
-    free-or (free-if (not (headerForm f)) 9 0 (omega arith))
-    (free-or (free-if (badSize (widthOf f) (heightOf f)) 10 0 (omega arith))
-    (free-or (free-if (not (eqb (length (raster f)) (rowBytes (widthOf f) * heightOf f))) 11 0 (omega arith))
-    (free-or (free-at (first (paddingSet (widthOf f) (raster f)) (heightOf f)) 12 (λ row. row) (omega arith)) fine)))
+file-numbers f =
+    one-of-or (one-of-if (not (headerForm f)) 9 0 refl)
+    (one-of-or (one-of-if (badSize (widthOf f) (heightOf f)) 10 0 refl)
+    (one-of-or (one-of-if (not (eqb (length (raster f)) (rowBytes (widthOf f) * heightOf f))) 11 0 refl)
+    (one-of-or (one-of-at (first (paddingSet (widthOf f) (raster f)) (heightOf f)) 12 (λ row. row) refl) accepts)))
 
--- nothing is loaded
-sixteen : Free (Refused (refusal 16 0))
-sixteen = free-if true 16 0 (omega arith)
+pub load-numbers : (t : Table) (f : List ℕ) (n m : ℕ) → OneOf inputNumbers (judge (recordVerdict t ∷ fileVerdict f ∷ areasRule f n m ∷ []))
+load-numbers t f n m =
+    one-of-or (record-numbers t)
+    (one-of-or (file-numbers f) (one-of-or (one-of-if (ltb n (widthOf f * heightOf f) || ltb m (widthOf f * heightOf f)) 13 0 refl) accepts))
 
-free-call : (c : Call) (n : Lengths) (H : History) → Free (refusedBy c n H)
+call-numbers : (c : Call) (n : Lengths) (H : History) → OneOf callNumbers (refusedBy c n H)
 unfolding refusedBy
-free-call (load t f) n empty =
-    free-or (free-record t)
-    (free-or (free-file f)
-    (free-or (free-if (ltb (n .first) (widthOf f * heightOf f) || ltb (n .second) (widthOf f * heightOf f)) 13 0 (omega arith)) fine))
-free-call (load t f) n (holds e) = free-if true 15 0 (omega arith)
-free-call pass n empty = sixteen
-free-call pass n (holds e) = fine
-free-call run n empty = sixteen
-free-call run n (holds e) = fine
-free-call view n empty = sixteen
-free-call view n (holds e) = fine
-free-call figures n empty = sixteen
-free-call figures n (holds e) = fine
-free-call (collect out) n empty = sixteen
-free-call (collect out) n (holds e) =
-    free-or (free-if (not (e .settled)) 17 0 (omega arith))
-    (free-or (free-if (ltb (length out) (length (imageBytes (e .width) (e .height) (e .last)))) 13 0 (omega arith)) fine)
-
-free-number : {v : Verdict} {r : Refusal} → Free v → v ≡ Refused r → r .number ≢ 14
-free-number fine q = absurd (let z : _≡_ {A = ℕ} 0 1 = cc in omega arith)
-free-number {r = r} (other {r = x} h) q = let z : x ≡ r = cc in rw z at h
+call-numbers (load t f) n empty = one-of-more (load-numbers t f (n .first) (n .second)) refl
+call-numbers (load t f) n (holds e) = refuses refl
+call-numbers pass n empty = refuses refl
+call-numbers pass n (holds e) = accepts
+call-numbers run n empty = refuses refl
+call-numbers run n (holds e) = accepts
+call-numbers view n empty = refuses refl
+call-numbers view n (holds e) = accepts
+call-numbers figures n empty = refuses refl
+call-numbers figures n (holds e) = accepts
+call-numbers (collect out) n empty = refuses refl
+call-numbers (collect out) n (holds e) =
+    one-of-or (one-of-if (not (e .settled)) 17 0 refl)
+    (one-of-or (one-of-if (ltb (length out) (length (imageBytes (e .width) (e .height) (e .last)))) 13 0 refl) accepts)
 
 pub never-14 : (c : Call) (n : Lengths) (H : History) (r : Refusal) → refusedBy c n H ≡ Refused r → r .number ≢ 14
-never-14 c n H r q = free-number (free-call c n H) q
+never-14 c n H r q = one-of-other (call-numbers c n H) refl q

@@ -46,7 +46,7 @@ module _ {s : State} {e : Entry} {n : ℕ} (r : Held s e n) where
   unfolding nextImage nextOf
   next-image = rw (r .shown, r .job)
 
-  last-image : IsImage (e .width) (e .height) (e .last)
+  pub last-image : IsImage (e .width) (e .height) (e .last)
   last-image = row-image (r .accepted) (r .row) (r .begun)
 
   next-of-image : IsImage (e .width) (e .height) (nextOf e)

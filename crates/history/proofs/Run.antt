@@ -1,12 +1,12 @@
 -- A run is its passes called singly (01, Lists of calls).
---     run-once, run-stops, run-goes     what a run does, by the answer of its first pass
+--     run-once, run-stops               a run that its first pass ends
 --     settled-stays                     passes leave a settled entry as it is
 --     few-passes                        a run of at most n passes makes at most n
 --     course s e n, step-pass, step-run     a job beside an entry, and a pass and a run there
 --     Begins s e, begins                the two ways that a run begins
 --     run-plays                         record, areas, history and tally after a run are those after its passes
---     run-rests                         a run of at most one pass more than there are pixels answers "at rest"
---     run-as-passes                     the claim
+--     run-rests                         a run of at most one pass more than there are pixels answers "at rest", and sets the mark
+--     run-answer, ran-settled, run-as-passes     so does every run; and it is its passes called singly
 -- Assumes nothing.
 use mathlib.Core.Bool.{Bool, true, false, cond}
 use mathlib.Core.Path.{_≡_, refl, sym, ap, _∙_, subst⁻¹}
@@ -18,7 +18,8 @@ use Rattle.filter.specs.Image.{differs}
 use Rattle.history.specs.declared.Job.{Job}
 use Rattle.history.specs.declared.Passed.{Passed}
 use Rattle.history.specs.declared.Passed.the-variants as passing
-use Rattle.history.specs.Call.{pass, run, stateOf}
+use Rattle.history.specs.Call.{pass, run, answerOf, stateOf}
+use Rattle.history.specs.Call as calls
 use Rattle.history.specs.Demand3.{RunAsPasses}
 use Rattle.history.specs.History.{Entry, holds, nextOf, joined, marked, passed, passedFor, ran, refusedBy, accepted, after}
 use Rattle.history.specs.Lists.{Course, passesOfRun, tallied, step, play}
@@ -29,23 +30,15 @@ use Rattle.history.proofs.Entries.{cond-true, cond-false, passed-settle
 use Rattle.history.proofs.Pass.{resting, changes, quiet, turn, pass-held}
 use Rattle.history.proofs.Related.{Held}
 use Rattle.history.proofs.Row.{row-bound}
+use Rattle.history.proofs.Runs.{run-ends, run-goes}
 
 run-once : (s : State) → runFor 0 s ≡ passOf s
 unfolding runFor
 run-once s = refl
 
-module _ (m : ℕ) (s : State) where
-  -- a run of m + 2 passes, by the answer of the first
-  first-of : Passed → Outcome
-  first-of a = elim a [ passing.Changed ↦ runFor m (passOf s .state) | passing.Stable ↦ passOf s | passing.Refused r ↦ passOf s ]
-
-  run-stops : passOf s .answer ≡ passing.Stable → runFor (suc m) s ≡ passOf s
-  unfolding runFor first-of
-  run-stops q = ap first-of q
-
-  run-goes : passOf s .answer ≡ passing.Changed → runFor (suc m) s ≡ runFor m (passOf s .state)
-  unfolding runFor first-of
-  run-goes q = ap first-of q
+-- a first pass that answers "at rest" is the run
+run-stops : (m : ℕ) (s : State) → passOf s .answer ≡ passing.Stable → runFor (suc m) s ≡ passOf s
+run-stops m s q = run-ends (suc m) s (λ e. let z : _≡_ {A = ℕ} 0 1 = cc in omega arith)
 
 -- a settled entry stays as it is
 settled-stays : (n : ℕ) (e : Entry) → e .settled ≡ true → passedFor n e ≡ e
@@ -77,11 +70,11 @@ unfolding step stateOf after refusedBy accepted tallied ran
 step-run s e n = refl
 
 -- how a run begins: its first pass is its last, or changes the image and leaves one pass less to make
-data Begins (s : State) (e : Entry) : Type 0 where
+pub data Begins (s : State) (e : Entry) : Type 0 where
   stops : passOf s .answer ≡ passing.Stable → passed e .settled ≡ true → ((k : ℕ) → passesOfRun (suc k) e ≡ 1) → Begins s e
   goes : passOf s .answer ≡ passing.Changed → passed e ≡ joined e → ((k : ℕ) → passesOfRun (suc k) e ≡ suc (passesOfRun k (passed e))) → Begins s e
 
-begins : {s : State} {e : Entry} {n : ℕ} → Held s e n → Begins s e
+pub begins : {s : State} {e : Entry} {n : ℕ} → Held s e n → Begins s e
 unfolding marked
 begins {s} {e} r =
     elim (turn r) [
@@ -121,33 +114,45 @@ run-plays (suc k) {s} {e} {n} r = go (begins r) (run-plays k (pass-held r))
         ∙ below
         ∙ ap (play (replicate (passesOfRun (suc k) (passed e)) pass)) (sym (step-pass s e n))))
 
--- each pass but the last changes the image, and there are at most as many such passes as pixels
-run-rests : (k : ℕ) {s : State} {e : Entry} {n : ℕ} → Held s e n → e .width * e .height ≤ k + length (e .earlier)
-    → runFor k s .answer ≡ passing.Stable
+-- each pass but the last changes the image, and there are at most as many such passes as pixels: the last sets the mark
+abbrev Rested : ℕ → State → Entry → Type 0
+Rested k s e = (runFor k s .answer ≡ passing.Stable) × (passedFor (suc k) e .settled ≡ true)
+
+run-rests : (k : ℕ) {s : State} {e : Entry} {n : ℕ} → Held s e n → e .width * e .height ≤ k + length (e .earlier) → Rested k s e
 unfolding joined
 run-rests zero {s} {e} {n} r l = go (begins r)
   where
-    go : Begins s e → runFor 0 s .answer ≡ passing.Stable
-    go (stops a q p) = rw (run-once s) a
+    go : Begins s e → Rested 0 s e
+    go (stops a q p) = (rw (run-once s) a, q)
     go (goes a q p) =
         let h = pass-held r in
         absurd (omega (arith, rw q at (row-bound (h .accepted) (h .row) (h .begun))))
 run-rests (suc k) {s} {e} {n} r l = go (begins r) (run-rests k (pass-held r))
   where
-    go : Begins s e → (passed e .width * passed e .height ≤ k + length (passed e .earlier) → runFor k (passOf s .state) .answer ≡ passing.Stable)
-        → runFor (suc k) s .answer ≡ passing.Stable
-    go (stops a q p) below = rw (run-stops k s a) a
-    go (goes a q p) below = rw (run-goes k s a) (below (rw q (omega arith)))
+    go : Begins s e → (passed e .width * passed e .height ≤ k + length (passed e .earlier) → Rested k (passOf s .state) (passed e))
+        → Rested (suc k) s e
+    go (stops a q p) below = (rw (run-stops k s a) a, ap (λ (x : Entry). x .settled) (settled-stays (suc k) (passed e) q) ∙ q)
+    go (goes a q p) below = let b = below (rw q (omega arith)) in (rw (run-goes k s a) (b .0), b .1)
 
-run-of : {s : State} {e : Entry} {n : ℕ} → Held s e n → runOf s ≡ runFor (e .width * e .height) s
-unfolding runOf
-run-of {s} r = ap (λ (j : Job). runFor (pixels j) s) (r .job)
+module _ {s : State} {e : Entry} {n : ℕ} (r : Held s e n) where
+  run-of : runOf s ≡ runFor (e .width * e .height) s
+  unfolding runOf
+  run-of = ap (λ (j : Job). runFor (pixels j) s) (r .job)
 
--- a run is its passes called singly, at most one more than there are pixels
-pub run-as-passes : {s : State} {e : Entry} {n : ℕ} → Held s e n → RunAsPasses (course s e n) e
-run-as-passes {s} {e} {n} r = record {
-  passes = passesOfRun (e .width * e .height + 1) e;
-  few = few-passes (e .width * e .height + 1) e;
-  singly = step-run s e n ∙ rw (run-of r, add-one (e .width * e .height)) (run-plays (e .width * e .height) r);
-  answer = rw (run-of r) (run-rests (e .width * e .height) r (omega arith));
-}
+  pub run-answer : runOf s .answer ≡ passing.Stable
+  run-answer = rw run-of (run-rests (e .width * e .height) r (omega arith) .0)
+
+  -- the mark stands after a run
+  pub ran-settled : ran e .settled ≡ true
+  unfolding ran
+  ran-settled = rw (add-one (e .width * e .height)) (run-rests (e .width * e .height) r (omega arith) .1)
+
+  -- a run is its passes called singly, at most one more than there are pixels
+  pub run-as-passes : RunAsPasses (course s e n) e
+  unfolding answerOf
+  run-as-passes = record {
+    passes = passesOfRun (e .width * e .height + 1) e;
+    few = few-passes (e .width * e .height + 1) e;
+    singly = step-run s e n ∙ rw (run-of, add-one (e .width * e .height)) (run-plays (e .width * e .height) r);
+    answer = ap calls.passed run-answer;
+  }

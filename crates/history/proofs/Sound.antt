@@ -1,24 +1,31 @@
 -- A job that holds an entry, or none, is sound, and is ready exactly when it holds one.
+--     held-ready                   it is ready, where it holds one
 --     sound-held, sound-empty      01's 14 does not hold
 --     ready-held, ready-empty      so pass, run, view and figures are accepted, or refused by 16
 -- Assumes nothing.
 use mathlib.Core.Bool.{Bool, true, false}
 use mathlib.Core.Path.{_≡_, refl}
-use Prim.Native.Nat.{ℕ}
-use borrow.Author.Tests.{le-ltb}
-use lib.Dec.{ltb, eqb}
+use Prim.Native.Nat.{ℕ, _≤_}
+use native.Mathlib.Omega.{arith}
+use lib.Dec.{eqb}
 use Rattle.history.specs.History.{Entry}
-use Rattle.history.specs.State.{State, emptyJob, nonzero, inconsistent, unsound, readyVerdict}
+use Rattle.history.specs.Sound.{Ready}
+use Rattle.history.specs.State.{State, emptyJob, nonzero, unsound, readyVerdict}
 use Rattle.history.proofs.Images.{none-above}
+use Rattle.history.proofs.Ready.{ready-sound, ready-accepted}
 use Rattle.history.proofs.Related.{stageOf, Held}
 use Rattle.history.proofs.Row.{row-image, row-bound, row-changes}
 use Rattle.verdict.specs.declared.Verdict.the-variants.{Accepted, Refused}
 use Rattle.verdict.specs.Rules.{refusal}
 
--- stage 1 and 2 are at most 2, and not 0
-stage-small : (b : Bool) → ltb 2 (stageOf b) ≡ false
-stage-small true = refl
-stage-small false = refl
+-- stage 1 and 2 are at least 1 and at most 2, and not 0
+stage-low : (b : Bool) → 1 ≤ stageOf b
+stage-low true = omega arith
+stage-low false = omega arith
+
+stage-high : (b : Bool) → stageOf b ≤ 2
+stage-high true = omega arith
+stage-high false = omega arith
 
 pub stage-held : (b : Bool) → eqb (stageOf b) 0 ≡ false
 stage-held true = refl
@@ -33,25 +40,21 @@ unfolding readyVerdict emptyJob
 ready-empty s q = rw (sound-empty s q, q)
 
 module _ {s : State} {e : Entry} {n : ℕ} (r : Held s e n) where
-  consistent : inconsistent s ≡ false
-  unfolding inconsistent
-  consistent =
-      rw (
-        r .shown,
-        r .job,
-        r .sized,
-        r .accepted,
-        le-ltb _ _ (r .first-long),
-        le-ltb _ _ (r .second-long),
-        none-above (row-image (r .accepted) (r .row) (r .begun)),
-        le-ltb _ _ (row-bound (r .accepted) (r .row) (r .begun)),
-        le-ltb _ _ (row-changes (r .accepted) (r .row) (r .begun)),
-      )
+  pub held-ready : Ready s
+  held-ready = record {
+    begun = rw (r .job) (stage-low (e .settled));
+    staged = rw (r .job) (stage-high (e .settled));
+    sized = rw (r .job) (r .sized);
+    table = rw (r .job) (r .accepted);
+    first = rw (r .job) (r .first-long);
+    second = rw (r .job) (r .second-long);
+    binary = rw (r .shown) (none-above (row-image (r .accepted) (r .row) (r .begun)));
+    passes = rw (r .job) (row-bound (r .accepted) (r .row) (r .begun));
+    counts = rw (r .job) (row-changes (r .accepted) (r .row) (r .begun));
+  }
 
   pub sound-held : unsound s ≡ false
-  unfolding unsound
-  sound-held = rw (consistent, r .job, stage-small, stage-held)
+  sound-held = ready-sound held-ready
 
   pub ready-held : readyVerdict s ≡ Accepted
-  unfolding readyVerdict
-  ready-held = rw (sound-held, r .job, stage-held)
+  ready-held = ready-accepted held-ready

@@ -2,7 +2,7 @@
 --     rested-last        a settled entry's last image is the rested one
 --     Shared e e'        one operator takes the first images to the last ones, and keeps exchange and order
 --     shared             two such jobs have one
---     exchanged, ordered, reloaded     the claims
+--     exchanged, ordered, rests     the claims
 -- Assumes nothing.
 use mathlib.Core.Bool.{true}
 use mathlib.Core.List.{List, []}
@@ -10,13 +10,16 @@ use mathlib.Core.Logic.{_⊎_, inl, inr}
 use mathlib.Core.Path.{_≡_, sym, ap, _∙_, subst₂}
 use Prim.Native.Nat.{ℕ}
 use lib.ListN.{length}
+use Rattle.filter.specs.Heijmans.{modified}
 use Rattle.filter.specs.Image.{IsImage, added, removed, exchange, Covered}
 use Rattle.filter.specs.Pass.{passes, Stable}
 use Rattle.filter.specs.Rest.{rested}
 use Rattle.filter.proofs.Exchange.{exchange-passes}
+use Rattle.filter.proofs.Heijmans.{all-heijmans}
 use Rattle.filter.proofs.Order.{order-passes}
 use Rattle.filter.proofs.Rest.{all-rest}
-use Rattle.history.specs.Demand3.{Twins, Reloaded}
+use Rattle.history.specs.Call.{passed, answerOf}
+use Rattle.history.specs.Demand3.{Twins, Rests}
 use Rattle.history.specs.History.{Entry}
 use Rattle.history.specs.Lists.{Course, oldest, firstOf, sumSteps}
 use Rattle.history.specs.State.{State}
@@ -24,8 +27,8 @@ use Rattle.history.specs.View.{viewOf}
 use Rattle.history.proofs.After.{agrees}
 use Rattle.history.proofs.Related.{Held}
 use Rattle.history.proofs.Row.{row-stable}
-use Rattle.history.proofs.Run.{run-as-passes}
-use Rattle.history.proofs.View.{view-held, operated}
+use Rattle.history.proofs.Run.{run-answer}
+use Rattle.history.proofs.View.{view-held, operated-held}
 
 -- one operator takes both first images to the last ones, and keeps exchange and order
 record Shared (e e' : Entry) : Type 0 where
@@ -74,14 +77,15 @@ module _ {w w' : Course} {e e' : Entry} (two : Twins w w' e e') (r : Held (w .st
       (f .ordering (firstOf e) (firstOf e') (r .begun) (rw (two .width, two .height) (r' .begun)) c)
 
 -- every pass on a stable image is quiet, so there is no step from it
-pub reloaded : {s : State} {e : Entry} {n : ℕ} → Held s e n → Stable (e .table) (e .width) (e .height) (firstOf e) → Reloaded s e
-reloaded {s} {e} r q = record {
+pub rests : {s : State} {e : Entry} {n : ℕ} → Held s e n → Stable (e .table) (e .width) (e .height) (firstOf e) → Rests (firstOf e) s
+unfolding answerOf
+rests {s} {e} r q = record {
   view = view-held r ∙ last-first;
   passes = agrees r .passes ∙ ap length none;
   added = agrees r .added ∙ ap (sumSteps added (e .last)) none;
   removed = agrees r .removed ∙ ap (sumSteps removed (e .last)) none;
-  pass-answer = operated r .reported .1 (rw (view-held r, last-first) q);
-  run-answer = run-as-passes r .answer;
+  pass-answer = operated-held r .reported .1 (rw (view-held r, last-first) fixed);
+  run-answer = ap passed (run-answer r);
 }
   where
     none : e .earlier ≡ []
@@ -89,3 +93,6 @@ reloaded {s} {e} r q = record {
 
     last-first : e .last ≡ firstOf e
     last-first = sym (ap (oldest (e .last)) none)
+
+    fixed : modified (e .table) (e .width) (e .height) (firstOf e) ≡ firstOf e
+    fixed = sym (all-heijmans (e .table) (e .width) (e .height) (firstOf e) (r .accepted) (r .begun) .pass-modified) ∙ q

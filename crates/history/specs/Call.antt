@@ -1,15 +1,20 @@
 -- The calls on a job, as one function of record and areas (01, Lists of calls).
 --     Call            a call with its other arguments
---     answerOf c s    what it answers; stateOf c s: record and areas afterwards
+--     isLoad c, isRun c, isCollect c     which call it is
+--     Answer          what a call answers, and leaves in the memory that it was lent beside the areas
+--     answerOf c s    the answer; stateOf c s: record and areas afterwards
 --     refusalOf a     accepted, or the refusal that an answer holds
+--     refusing c r    the answer of a call that is refused by r: all else is zero, and an output is as it was
 -- Assumes nothing.
-use mathlib.Core.List.{List}
+use mathlib.Core.Bool.{Bool, true, false}
+use mathlib.Core.List.{List, []}
 use Prim.Native.Nat.{ℕ}
 use lib.ListN.{length}
 use Rattle.history.specs.declared.Figured.{Figured}
 use Rattle.history.specs.declared.Figured.the-variants as figuring
 use Rattle.history.specs.declared.Passed.{Passed}
 use Rattle.history.specs.declared.Passed.the-variants as passing
+use Rattle.history.specs.Answers.{passedVerdict, figuredVerdict}
 use Rattle.history.specs.Collect.{collectWritten, collectOutput, collectState}
 use Rattle.history.specs.Load.{loadVerdict, loadState}
 use Rattle.history.specs.Pass.{passOf}
@@ -17,10 +22,12 @@ use Rattle.history.specs.Run.{runOf}
 use Rattle.history.specs.State.{State, readyVerdict}
 use Rattle.history.specs.View.{viewOf, figuresOf}
 use Rattle.table.specs.declared.Table.{Table}
+use Rattle.verdict.specs.declared.Refusal.{Refusal}
 use Rattle.verdict.specs.declared.Verdict.{Verdict}
-use Rattle.verdict.specs.declared.Verdict.the-variants.{Accepted, Refused}
+use Rattle.verdict.specs.declared.Verdict.the-variants.{Refused}
 use Rattle.verdict.specs.declared.Written.{Written}
 use Rattle.verdict.specs.declared.Written.the-variants as writing
+use Rattle.verdict.specs.Answers.{writtenVerdict}
 
 pub data Call : Type 0 where
   -- a table record and an image file
@@ -38,6 +45,30 @@ pub data Answer : Type 0 where
   -- the answer, and the output afterwards
   collected : Written → List ℕ → Answer
 
+abbrev pub isLoad : Call → Bool
+isLoad (load t f) = true
+isLoad pass = false
+isLoad run = false
+isLoad view = false
+isLoad figures = false
+isLoad (collect out) = false
+
+abbrev pub isRun : Call → Bool
+isRun (load t f) = false
+isRun pass = false
+isRun run = true
+isRun view = false
+isRun figures = false
+isRun (collect out) = false
+
+abbrev pub isCollect : Call → Bool
+isCollect (load t f) = false
+isCollect pass = false
+isCollect run = false
+isCollect view = false
+isCollect figures = false
+isCollect (collect out) = true
+
 unfoldable pub answerOf : Call → State → Answer
 answerOf (load t f) s = loaded (loadVerdict t f s)
 answerOf pass s = passed (passOf s .answer)
@@ -54,22 +85,17 @@ stateOf view s = s
 stateOf figures s = s
 stateOf (collect out) s = collectState (length out) s
 
-abbrev pub passedRefusal : Passed → Verdict
-passedRefusal passing.Changed = Accepted
-passedRefusal passing.Stable = Accepted
-passedRefusal (passing.Refused r) = Refused r
-
-abbrev pub figuredRefusal : Figured → Verdict
-figuredRefusal (figuring.Figures b c) = Accepted
-figuredRefusal (figuring.Refused r) = Refused r
-
-abbrev pub writtenRefusal : Written → Verdict
-writtenRefusal (writing.Length n) = Accepted
-writtenRefusal (writing.Refused r) = Refused r
-
 abbrev pub refusalOf : Answer → Verdict
 refusalOf (loaded v) = v
-refusalOf (passed a) = passedRefusal a
+refusalOf (passed a) = passedVerdict a
 refusalOf (shown px v) = v
-refusalOf (figured a) = figuredRefusal a
-refusalOf (collected a out) = writtenRefusal a
+refusalOf (figured a) = figuredVerdict a
+refusalOf (collected a out) = writtenVerdict a
+
+abbrev pub refusing : Call → Refusal → Answer
+refusing (load t f) r = loaded (Refused r)
+refusing pass r = passed (passing.Refused r)
+refusing run r = passed (passing.Refused r)
+refusing view r = shown [] (Refused r)
+refusing figures r = figured (figuring.Refused r)
+refusing (collect out) r = collected (writing.Refused r) out

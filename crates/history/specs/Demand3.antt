@@ -1,36 +1,46 @@
--- Demand 3: one claim about every list of calls (01, Lists of calls), with demand 2's claim on passes, sentence by sentence.
---     Agrees s e        record, areas and entry agree
---     Operated s e      demand 2: a pass gives the operator's image, and answers "at rest" exactly when the operator changes nothing
---     RunAsPasses w e   a run is its passes called singly
---     AfterList w       what holds after any list
---     Twins w w' e e'   two jobs with one table, one size and equally many accepted passes, or both settled
---     Reloaded s e      a stable image that was loaded stays
---     Demand3           the claim
+-- Demand 3: one claim about every list of calls (01, Lists of calls), sentence by sentence.
+--     Agrees s e          record, areas and entry agree
+--     Operated t w h s    a pass gives the operator's image, and answers "at rest" exactly when the operator changes nothing
+--     RunAsPasses w e     a run is its passes called singly
+--     AfterList n w       what holds after any list, on areas of the lengths n
+--     Twins w w' e e'     two jobs with one table, one size and equally many accepted passes, or both settled
+--     Rests img s         a stable image that was loaded stays
+--     Reloads w e file    so does the last image of an entry, loaded again from its file
+--     played cs a b       what a list of calls leaves
+--     Demand3             the claim
 -- Assumes nothing.
-use mathlib.Core.Bool.{true}
+use mathlib.Core.Bool.{true, false}
 use mathlib.Core.List.{List}
 use mathlib.Core.Logic.{_↔_, _⊎_, _≢_}
 use mathlib.Core.Path.{_≡_}
 use Prim.Native.Nat.{ℕ, _+_, _*_, _≤_}
-use lib.ListN.{length, replicate}
-use Rattle.filter.specs.Image.{black, added, removed, differsAt, exchange, Covered}
+use lib.ListN.{length, replicate, take}
+use Rattle.filter.specs.Heijmans.{modified}
+use Rattle.filter.specs.Image.{IsImage, black, added, removed, differsAt, exchange, Covered}
 use Rattle.filter.specs.Pass as filter
-use Rattle.history.specs.declared.Passed.the-variants as passing
-use Rattle.history.specs.Call.{Call, pass, run, answerOf, stateOf, refusalOf}
-use Rattle.history.specs.History.{Entry, empty, holds, refusedBy}
-use Rattle.history.specs.Lists.{Course, start, lengthsOf, step, play, firstOf, overSteps}
-use Rattle.history.specs.Pass.{passOf}
-use Rattle.history.specs.Run.{runOf}
+use Rattle.history.specs.declared.Passed.the-variants.{Changed, Stable}
+use Rattle.history.specs.Answered.{answeredBy}
+use Rattle.history.specs.Call.{Call, load, pass, run, collect, passed, collected, answerOf, stateOf, refusalOf}
+use Rattle.history.specs.History.{Entry, empty, holds, Lengths, refusedBy}
+use Rattle.history.specs.Lists.{Course, start, lengthsOf, step, play, uncollected, firstOf, overSteps}
 use Rattle.history.specs.State.{State}
 use Rattle.history.specs.View.{viewOf}
+use Rattle.image.specs.Size.{badSize}
 use Rattle.seq.specs.Lists.{one}
+use Rattle.table.specs.declared.Table.{Table}
+use Rattle.table.specs.Record.{recordVerdict}
 use Rattle.verdict.specs.declared.Refusal.{Refusal}
-use Rattle.verdict.specs.declared.Verdict.the-variants.{Refused}
+use Rattle.verdict.specs.declared.Verdict.the-variants.{Accepted, Refused}
+use Rattle.verdict.specs.declared.Written.the-variants as written
 
 pub record Agrees (s : State) (e : Entry) : Type 0 where
   pub table : s .job .table ≡ e .table
   pub width : s .job .width ≡ e .width
   pub height : s .job .height ≡ e .height
+  -- the table was accepted, the size is within the limits, and every pixel of the last image is 0 or 1
+  pub accepted : recordVerdict (e .table) ≡ Accepted
+  pub sized : badSize (e .width) (e .height) ≡ false
+  pub image : IsImage (e .width) (e .height) (e .last)
   -- view gives the last image's pixels
   pub view : viewOf s ≡ e .last
   -- passes is the number of steps
@@ -45,27 +55,34 @@ pub record Agrees (s : State) (e : Entry) : Type 0 where
   -- the steps are at most as many as the pixels
   pub bound : length (e .earlier) ≤ e .width * e .height
 
-pub record Operated (s : State) (e : Entry) : Type 0 where
-  pub image : viewOf (passOf s .state) ≡ filter.pass (e .table) (e .width) (e .height) (viewOf s)
-  pub reported : (passOf s .answer ≡ passing.Stable) ↔ filter.Stable (e .table) (e .width) (e .height) (viewOf s)
-  pub otherwise : (passOf s .answer ≡ passing.Changed) ⊎ (passOf s .answer ≡ passing.Stable)
+-- demand 2, of one pass
+pub record Operated (t : Table) (w h : ℕ) (s : State) : Type 0 where
+  pub image : viewOf (stateOf pass s) ≡ modified t w h (viewOf s)
+  pub reported : (answerOf pass s ≡ passed Stable) ↔ (modified t w h (viewOf s) ≡ viewOf s)
+  pub otherwise : (answerOf pass s ≡ passed Changed) ⊎ (answerOf pass s ≡ passed Stable)
 
 pub record RunAsPasses (w : Course) (e : Entry) : Type 0 where
   pub passes : ℕ
   pub few : passes ≤ e .width * e .height + 1
   -- record, areas, history and the tally end as after these passes called singly
   pub singly : step run w ≡ play (replicate passes pass) w
-  -- and the run's answer is that of the last of them
-  pub answer : runOf (w .state) .answer ≡ passing.Stable
+  -- and the run answers "at rest"
+  pub answer : answerOf run (w .state) ≡ passed Stable
 
-pub record AfterList (w : Course) : Type 0 where
+pub record AfterList (n : Lengths) (w : Course) : Type 0 where
+  pub lengths : lengthsOf (w .state) ≡ n
   pub stage-empty : (w .state .job .stage ≡ 0) ↔ (w .history ≡ empty)
   pub stage-settled : (w .state .job .stage ≡ 2) ↔ ((e : Entry) × (w .history ≡ holds e) × (e .settled ≡ true))
   pub agrees : (e : Entry) → w .history ≡ holds e → Agrees (w .state) e
-  pub operated : (e : Entry) → w .history ≡ holds e → Operated (w .state) e
+  pub operated : (e : Entry) → w .history ≡ holds e → Operated (e .table) (e .width) (e .height) (w .state)
+  -- view gives the first image after as many passes as were accepted since the load, quiet ones too
+  pub passed : (e : Entry) → w .history ≡ holds e
+      → viewOf (w .state) ≡ filter.passes (e .table) (e .width) (e .height) (w .tally) (firstOf e)
   pub run-as-passes : (e : Entry) → w .history ≡ holds e → RunAsPasses w e
-  -- the next call, whatever it is, is refused exactly as the history says, and never by 14
-  pub refused : (c : Call) → refusalOf (answerOf c (w .state)) ≡ refusedBy c (lengthsOf (w .state)) (w .history)
+  -- the next call, whatever it is, answers what the history says, and leaves that in its output
+  pub answered : (c : Call) → answerOf c (w .state) ≡ answeredBy c n (w .history)
+  -- so it is refused exactly as the history says, and never by 14
+  pub refused : (c : Call) → refusalOf (answerOf c (w .state)) ≡ refusedBy c n (w .history)
   pub never-14 : (c : Call) (r : Refusal) → refusalOf (answerOf c (w .state)) ≡ Refused r → r .number ≢ 14
   -- and a refused call alters neither record nor areas
   pub unaltered : (c : Call) (r : Refusal) → refusalOf (answerOf c (w .state)) ≡ Refused r → stateOf c (w .state) ≡ w .state
@@ -78,23 +95,40 @@ pub record Twins (w w' : Course) (e e' : Entry) : Type 0 where
   pub height : e .height ≡ e' .height
   pub together : (w .tally ≡ w' .tally) ⊎ ((e .settled ≡ true) × (e' .settled ≡ true))
 
-pub record Reloaded (s : State) (e : Entry) : Type 0 where
-  pub view : viewOf s ≡ firstOf e
+-- until collect: view gives the image that was loaded, the counts are 0, and every pass and run answers "at rest"
+pub record Rests (img : List ℕ) (s : State) : Type 0 where
+  pub view : viewOf s ≡ img
   pub passes : s .job .passes ≡ 0
   pub added : s .job .added ≡ 0
   pub removed : s .job .removed ≡ 0
-  pub pass-answer : passOf s .answer ≡ passing.Stable
-  pub run-answer : runOf s .answer ≡ passing.Stable
+  pub pass-answer : answerOf pass s ≡ passed Stable
+  pub run-answer : answerOf run s ≡ passed Stable
+
+-- a file loaded with the entry's table: accepted, and what it loads is the entry's last image, which stays until a collect is accepted
+pub record Reloads (w : Course) (e : Entry) (file : List ℕ) : Type 0 where
+  pub accepted : refusalOf (answerOf (load (e .table) file) (w .state)) ≡ Accepted
+  pub rests : (cs : List Call) → uncollected cs (step (load (e .table) file) w) ≡ true
+      → Rests (e .last) (play cs (step (load (e .table) file) w) .state)
 
 -- what a list of calls leaves, from an empty job with the areas a and b
 abbrev pub played : List Call → List ℕ → List ℕ → Course
 played cs a b = play cs (start a b)
 
+-- the areas' lengths at the start
+abbrev pub lent : List ℕ → List ℕ → Lengths
+lent a b = lengthsOf (start a b .state)
+
 pub record Demand3 : Type 0 where
-  pub after-list : (cs : List Call) (a b : List ℕ) → AfterList (played cs a b)
+  pub after-list : (cs : List Call) (a b : List ℕ) → AfterList (lent a b) (played cs a b)
+  -- a run is passes called singly, and the same holds after each of them
+  pub inside : (cs : List Call) (a b : List ℕ) (k : ℕ) → AfterList (lent a b) (play (replicate k pass) (played cs a b))
   pub exchanged : (cs cs' : List Call) (a b a' b' : List ℕ) (e e' : Entry) → Twins (played cs a b) (played cs' a' b') e e'
       → firstOf e' ≡ exchange (firstOf e) → viewOf (played cs' a' b' .state) ≡ exchange (viewOf (played cs a b .state))
   pub ordered : (cs cs' : List Call) (a b a' b' : List ℕ) (e e' : Entry) → Twins (played cs a b) (played cs' a' b') e e'
       → Covered (firstOf e) (firstOf e') → Covered (viewOf (played cs a b .state)) (viewOf (played cs' a' b' .state))
-  pub reloaded : (cs : List Call) (a b : List ℕ) (e : Entry) → played cs a b .history ≡ holds e
-      → filter.Stable (e .table) (e .width) (e .height) (firstOf e) → Reloaded (played cs a b .state) e
+  -- a stable image that was loaded
+  pub rests : (cs : List Call) (a b : List ℕ) (e : Entry) → played cs a b .history ≡ holds e
+      → filter.Stable (e .table) (e .width) (e .height) (firstOf e) → Rests (firstOf e) (played cs a b .state)
+  -- what an accepted collect wrote, loaded again with its table
+  pub reloaded : (cs : List Call) (a b out : List ℕ) (e : Entry) (m : ℕ) (after : List ℕ) → played cs a b .history ≡ holds e
+      → answerOf (collect out) (played cs a b .state) ≡ collected (written.Length m) after → Reloads (step (collect out) (played cs a b)) e (take m after)

@@ -1,11 +1,16 @@
 pub mod State
 pub mod Load
 pub mod Pass
+pub mod Sound
 pub mod Run
 pub mod View
 pub mod Collect
+pub mod Answers
 pub mod Call
 pub mod History
 pub mod Lists
+pub mod Answered
+pub mod Demand1
+pub mod Demand2
 pub mod Demand3
 pub mod Cases

@@ -3,19 +3,21 @@
 --     start a b         an empty record and two areas of any length and bytes
 --     step c w          one call
 --     play cs w         the calls of a list, one after the other
+--     uncollected cs w  no collect of the list is accepted
 --     firstOf e         the first image of an entry
 --     overSteps f e     f from image to next image, summed over the steps of an entry
 -- Assumes nothing.
-use mathlib.Core.Bool.{cond}
+use mathlib.Core.Bool.{Bool, true, cond, not, _&&_}
 use mathlib.Core.List.{List, [], _∷_}
 use Prim.Native.Nat.{ℕ, zero, suc, _+_, _*_}
 use lib.ListN.{length}
 use Rattle.filter.specs.Image.{differs}
-use Rattle.history.specs.Call.{Call, load, pass, run, view, figures, collect, stateOf}
+use Rattle.history.specs.Call.{Call, load, pass, run, view, figures, collect, isCollect, answerOf, stateOf, refusalOf}
 use Rattle.history.specs.History.{Entry, History, empty, holds, Lengths, nextOf, joined, refusedBy, after}
 use Rattle.history.specs.State.{State, emptyJob}
 use Rattle.verdict.specs.declared.Verdict.{Verdict}
 use Rattle.verdict.specs.declared.Verdict.the-variants.{Accepted, Refused}
+use Rattle.verdict.specs.Rules.{isAccepted}
 
 pub record Course : Type 0 where
   pub state : State
@@ -58,6 +60,11 @@ step c w =
 abbrev pub play : List Call → Course → Course
 play [] w = w
 play (c ∷ cs) w = play cs (step c w)
+
+-- no collect of the list is accepted
+abbrev pub uncollected : List Call → Course → Bool
+uncollected [] w = true
+uncollected (c ∷ cs) w = not (isCollect c && isAccepted (refusalOf (answerOf c (w .state)))) && uncollected cs (step c w)
 
 -- the oldest of a row, from the last image back
 abbrev pub oldest : List ℕ → List (List ℕ) → List ℕ

@@ -1,4 +1,5 @@
 -- Load (01): 14, 15, table, sheet, 13; then the image in the first area, stage 1, counts 0.
+--     loadRules t f s      what a load is refused by, in 01's order
 --     loadVerdict t f s    accepted, or number and place
 --     loadState t f s      record and areas afterwards: the second area stays
 -- Assumes nothing.
@@ -23,15 +24,17 @@ use Rattle.verdict.specs.Writer.{over}
 abbrev pub areasRule : List ℕ → ℕ → ℕ → Verdict
 areasRule f n m = refuseIf (ltb n (widthOf f * heightOf f) || ltb m (widthOf f * heightOf f)) 13 0
 
-unfoldable pub loadVerdict : Table → List ℕ → State → Verdict
-loadVerdict t f s =
-    judge
-    (soundRule s
+abbrev pub loadRules : Table → List ℕ → State → List Verdict
+loadRules t f s =
+    soundRule s
     ∷ refuseIf (not (eqb (s .job .stage) 0)) 15 0
     ∷ recordVerdict t
     ∷ fileVerdict f
     ∷ areasRule f (length (s .first)) (length (s .second))
-    ∷ [])
+    ∷ []
+
+unfoldable pub loadVerdict : Table → List ℕ → State → Verdict
+loadVerdict t f s = judge (loadRules t f s)
 
 unfoldable pub loadedJob : Table → List ℕ → Job
 loadedJob t f =

@@ -1,13 +1,14 @@
 -- A job: the record and the two work areas (01, The job), and when it is unsound (14).
 --     State             record and areas
 --     emptyJob          every field zero
+--     fieldsOf j        the fields beside the stage, the table's elements too
 --     pixels j          width × height
 --     present s         the area that holds the image: the first when passes is even, else the second
 --     image s           the present image
 --     unsound s         01's 14, without its pass clause
 --     soundRule s, loadedRule s      14, and 16 at stage 0
 -- Assumes nothing.
-use mathlib.Core.Bool.{Bool, cond, not, _&&_, _||_}
+use mathlib.Core.Bool.{Bool, cond, not, _||_}
 use mathlib.Core.List.{List, [], _∷_}
 use Prim.Native.Nat.{ℕ, _+_, _*_, _%_}
 use lib.Dec.{ltb, eqb}
@@ -43,12 +44,13 @@ image s = take (pixels (s .job)) (present s)
 abbrev pub short : Job → List ℕ → Bool
 short j area = ltb (length area) (pixels j)
 
+abbrev pub fieldsOf : Job → List ℕ
+fieldsOf j =
+    j .width ∷ j .height ∷ j .passes ∷ j .added ∷ j .removed ∷ j .table .count ∷ j .table .persistent ∷ j .table .elements
+
 -- stage 0 with a nonzero field
 unfoldable pub nonzero : Job → Bool
-nonzero j =
-    not
-    (all (eqb 0) (j .width ∷ j .height ∷ j .passes ∷ j .added ∷ j .removed ∷ j .table .count ∷ j .table .persistent ∷ [])
-    && all (eqb 0) (j .table .elements))
+nonzero j = not (all (eqb 0) (fieldsOf j))
 
 -- what 14 asks at stage 1 and 2
 unfoldable pub inconsistent : State → Bool

@@ -4,3 +4,4 @@ pub mod File
 pub mod RoundTrip
 pub mod Layout
 pub mod Rows
+pub mod Answers

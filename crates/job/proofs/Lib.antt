@@ -2,11 +2,9 @@ pub mod Seen
 pub mod Counts
 pub mod Areas
 pub mod Inconsistent
-pub mod Ready
 pub mod Changes
 pub mod Settled
 pub mod Filtered
-pub mod Passes
 pub mod Runs
 pub mod Balance
 pub mod Black

@@ -1,5 +1,5 @@
 -- Load by the code's tests: 14, 15, the table, then what the reader answers on the part of the first area that both areas have.
---     LoadedAs t f s r after        record, answer and first area are as the definition says
+--     LoadedAs t f s r after        answer, record and areas are as the definition says
 --     unsound-load, full-load, bad-table    refused before the reader is called
 --     read-in, unread               the reader's answer
 -- Assumes nothing.
@@ -32,7 +32,8 @@ use Rattle.verdict.specs.Writer.{over}
 use Rattle.verdict.proofs.Rules.{orElse-right, refuseIf-accepted, orElse-accepted}
 
 abbrev pub LoadedAs : Table → List ℕ → State → Loaded → List ℕ → Type 0
-LoadedAs t f s r after = (r ≡ loaded (loadVerdict t f s) (loadState t f s)) × (after ≡ loadState t f s .first)
+LoadedAs t f s r after =
+    (r ≡ loaded (loadVerdict t f s) (loadState t f s)) × (after ≡ loadState t f s .first) × (loadState t f s .second ≡ s .second)
 
 -- the shorter of two areas is too short exactly when one of them is
 short-both : (n k p : ℕ) → (ltb n p || ltb k p) ≡ ltb (min n k) p
@@ -53,7 +54,7 @@ over-part px area m h =
 module _ (t : Table) (f : List ℕ) (s : State) where
   refused : {r : Refusal} → loadVerdict t f s ≡ Refused r → LoadedAs t f s (record { answer = Refused r; job = s .job }) (s .first)
   unfolding loadState
-  refused e = rw e (refl, refl)
+  refused e = rw e (refl, refl, refl)
 
   pub unsound-load : unsound s ≡ true → LoadedAs t f s (record { answer = Refused (refusal 14 0); job = s .job }) (s .first)
   unfolding loadVerdict
@@ -120,4 +121,4 @@ module _ (t : Table) (f : List ℕ) (s : State) where
         read-in {w} {h} e =
             let (ok, wide, high) = accepted-read e in
             let put : area ++ drop m (s .first) ≡ over (imageOf f) (s .first) = rw (q, ok) (over-part (imageOf f) (s .first) m (fits ok)) in
-            rw (put, wide, high, verdict, ok) (refl, refl)
+            rw (put, wide, high, verdict, ok) (refl, refl, refl)

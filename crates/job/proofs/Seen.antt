@@ -4,7 +4,7 @@
 --     seen-zero     at its end: the join is 0 exactly when each number is
 --     nonzero-join, nonzero-persistent, nonzero-elements     a record with a nonzero field, by the code's tests
 -- Assumes nothing.
-use mathlib.Core.Bool.{Bool, true, false, not, _&&_, _||_, and-true, and-assoc}
+use mathlib.Core.Bool.{Bool, true, false, not, _&&_, _||_, and-assoc}
 use mathlib.Core.List.{List}
 use mathlib.Core.Path.{_≡_, refl, sym, ap, _∙_}
 use Prim.Native.Nat.{ℕ, _+_, _-_, _^_, _<_}
@@ -81,7 +81,7 @@ joined j = bitOr (bitOr (bitOr (j .width) (j .height)) (j .passes)) (bitOr (bitO
 
 nonzero-joined : (j : Job) → nonzero j ≡ not (eqb 0 (joined j) && (eqb 0 (j .table .persistent) && all (eqb 0) (j .table .elements)))
 unfolding nonzero
-nonzero-joined j = simp (zero-or, and-assoc, and-true)
+nonzero-joined j = simp (zero-or, and-assoc)
 
 pub nonzero-join : (j : Job) → (joined j ≡ 0 → ⊥) → true ≡ nonzero j
 nonzero-join j h = sym (nonzero-joined j ∙ rw (ne-eqb 0 (joined j) (λ z. h (sym z))))

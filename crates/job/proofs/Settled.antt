@@ -21,9 +21,10 @@ use Rattle.history.specs.declared.Passed.the-variants as passed
 use Rattle.history.specs.Pass.{nextImage, nowAdded, nowRemoved, exceeds, withNext, changedJob, stableJob, changing, passLoaded}
 use Rattle.history.specs.State.{State, pixels, even, image}
 use Rattle.image.specs.Size.{badSize, within, maxSide}
-use Rattle.job.specs.Ready.{Ready, Computed, Made}
+use Rattle.history.specs.Sound.{Ready}
+use Rattle.job.specs.Ready.{Computed, Made}
 use Rattle.job.proofs.Changes.{quiet, changed}
-use Rattle.job.proofs.Ready.{ready-image, ready-next}
+use Rattle.history.proofs.Ready.{ready-image, ready-next}
 use Rattle.seq.specs.Tab.{upTo}
 use Rattle.seq.proofs.Lists.{either, and-left, and-right, count-le}
 use Rattle.seq.proofs.Tab.{length-upTo}

@@ -1,4 +1,4 @@
-// The calls on a job (01, The job). Each call checks the record with its areas first (14), and a refused call alters nothing; a run that
+// The calls on a job (01, The job). Each promise says the answer, the record and both areas afterwards. Each call checks the record with its areas first (14), and a refused call alters nothing; a run that
 // 14's pass clause stops keeps the passes before it. Load, pass, run and collect come in two forms: `.._core` takes the record by value and
 // hands it back, and the form that 01 names is lent the record and writes it back.
 use history::Figured;
@@ -11,6 +11,7 @@ use verdict::Written;
 ghost use mathlib.Core.Path.{_≡_};
 ghost use Prim.Native.Nat.{min};
 ghost use lib.ListN.{length};
+ghost use Rattle.history.specs.Call.{view, figures, stateOf};
 ghost use Rattle.history.specs.Collect.{collectWritten, collectOutput, collectState};
 ghost use Rattle.history.specs.Load.{loadVerdict, loadState};
 ghost use Rattle.history.specs.Pass.{passOf};
@@ -44,7 +45,8 @@ pub struct Emptied {
 pub fn load_core(job: Job, table: Table, file: &[u8], first: &mut [u8], second: &[u8]) -> Loaded
     ensures { λ r. ⌜ (r ≡ loaded (loadVerdict table (now (file .entry)) (at job (now (first .entry)) (now (second .entry))))
         (loadState table (now (file .entry)) (at job (now (first .entry)) (now (second .entry)))))
-        × (now (first .exit) ≡ loadState table (now (file .entry)) (at job (now (first .entry)) (now (second .entry))) .first) ⌝ }
+        × (now (first .exit) ≡ loadState table (now (file .entry)) (at job (now (first .entry)) (now (second .entry))) .first)
+        × (loadState table (now (file .entry)) (at job (now (first .entry)) (now (second .entry))) .second ≡ now (second .entry)) ⌝ }
 {
     if sound::unsound(job, first, second) {
         return Loaded {
@@ -91,7 +93,8 @@ pub fn load_core(job: Job, table: Table, file: &[u8], first: &mut [u8], second: 
 pub fn load(job: &mut Job, table: Table, file: &[u8], first: &mut [u8], second: &[u8]) -> Verdict
     ensures { λ r. ⌜ (r ≡ loadVerdict table (now (file .entry)) (at (now (job .entry)) (now (first .entry)) (now (second .entry))))
         × (now (job .exit) ≡ loadState table (now (file .entry)) (at (now (job .entry)) (now (first .entry)) (now (second .entry))) .job)
-        × (now (first .exit) ≡ loadState table (now (file .entry)) (at (now (job .entry)) (now (first .entry)) (now (second .entry))) .first) ⌝ }
+        × (now (first .exit) ≡ loadState table (now (file .entry)) (at (now (job .entry)) (now (first .entry)) (now (second .entry))) .first)
+        × (loadState table (now (file .entry)) (at (now (job .entry)) (now (first .entry)) (now (second .entry))) .second ≡ now (second .entry)) ⌝ }
 {
     let s = load_core(*job, table, file, first, second);
     *job = s.job;
@@ -170,7 +173,8 @@ pub fn run(job: &mut Job, first: &mut [u8], second: &mut [u8]) -> Passed
 
 // View: the present image; a refused view shows an empty part.
 pub fn view<'a>(job: Job, first: &'a [u8], second: &'a [u8]) -> &'a [u8]
-    ensures { λ r. ⌜ now r ≡ viewOf (at job (now (first .entry)) (now (second .entry))) ⌝ }
+    ensures { λ r. ⌜ (now r ≡ viewOf (at job (now (first .entry)) (now (second .entry))))
+        × (stateOf view (at job (now (first .entry)) (now (second .entry))) ≡ at job (now (first .entry)) (now (second .entry))) ⌝ }
 {
     if let Verdict::Refused(_) = sound::ready(job, first, second) {
         return &first[..0];
@@ -187,7 +191,8 @@ pub fn view_verdict<'a>(job: Job, first: &'a [u8], second: &'a [u8]) -> Verdict
 
 // Figures: 14, 16; balance signed, cover in thousandths.
 pub fn figures<'a>(job: Job, first: &'a [u8], second: &'a [u8]) -> Figured
-    ensures { λ r. ⌜ r ≡ figuresOf (at job (now (first .entry)) (now (second .entry))) ⌝ }
+    ensures { λ r. ⌜ (r ≡ figuresOf (at job (now (first .entry)) (now (second .entry))))
+        × (stateOf figures (at job (now (first .entry)) (now (second .entry))) ≡ at job (now (first .entry)) (now (second .entry))) ⌝ }
 {
     if let Verdict::Refused(refusal) = sound::ready(job, first, second) {
         return Figured::Refused(refusal);
@@ -202,7 +207,9 @@ pub fn figures<'a>(job: Job, first: &'a [u8], second: &'a [u8]) -> Figured
 pub fn collect_core<'a>(job: Job, first: &'a [u8], second: &'a [u8], out: &mut [u8]) -> Emptied
     ensures { λ r. ⌜ (r ≡ emptied (collectWritten (length (now (out .entry))) (at job (now (first .entry)) (now (second .entry))))
         (collectState (length (now (out .entry))) (at job (now (first .entry)) (now (second .entry)))))
-        × (now (out .exit) ≡ collectOutput (now (out .entry)) (at job (now (first .entry)) (now (second .entry)))) ⌝ }
+        × (now (out .exit) ≡ collectOutput (now (out .entry)) (at job (now (first .entry)) (now (second .entry))))
+        × (collectState (length (now (out .entry))) (at job (now (first .entry)) (now (second .entry))) .first ≡ now (first .entry))
+        × (collectState (length (now (out .entry))) (at job (now (first .entry)) (now (second .entry))) .second ≡ now (second .entry)) ⌝ }
 {
     if let Verdict::Refused(refusal) = sound::ready(job, first, second) {
         return Emptied {
@@ -229,7 +236,9 @@ pub fn collect_core<'a>(job: Job, first: &'a [u8], second: &'a [u8], out: &mut [
 pub fn collect<'a>(job: &mut Job, first: &'a [u8], second: &'a [u8], out: &mut [u8]) -> Written
     ensures { λ r. ⌜ (r ≡ collectWritten (length (now (out .entry))) (at (now (job .entry)) (now (first .entry)) (now (second .entry))))
         × (now (job .exit) ≡ collectState (length (now (out .entry))) (at (now (job .entry)) (now (first .entry)) (now (second .entry))) .job)
-        × (now (out .exit) ≡ collectOutput (now (out .entry)) (at (now (job .entry)) (now (first .entry)) (now (second .entry)))) ⌝ }
+        × (now (out .exit) ≡ collectOutput (now (out .entry)) (at (now (job .entry)) (now (first .entry)) (now (second .entry))))
+        × (collectState (length (now (out .entry))) (at (now (job .entry)) (now (first .entry)) (now (second .entry))) .first ≡ now (first .entry))
+        × (collectState (length (now (out .entry))) (at (now (job .entry)) (now (first .entry)) (now (second .entry))) .second ≡ now (second .entry)) ⌝ }
 {
     let s = collect_core(*job, first, second, out);
     *job = s.job;

@@ -12,7 +12,8 @@ ghost use lib.Dec.{ltb};
 ghost use Rattle.history.specs.Pass.{passLoaded};
 ghost use Rattle.history.specs.Run.{runOf};
 ghost use Rattle.job.specs.Core.{at};
-ghost use Rattle.job.specs.Ready.{Ready, Computed, Made};
+ghost use Rattle.history.specs.Sound.{Ready};
+ghost use Rattle.job.specs.Ready.{Computed, Made};
 
 const MAX_PIXELS: usize = sound::MAX_SIDE * sound::MAX_SIDE;
 
@@ -42,7 +43,7 @@ pub(crate) fn advance(job: Job, first: &mut [u8], second: &mut [u8]) -> Stepped
     let table = job.table;
     let pixels = job.width * job.height;
     let mut next = blank();
-    let made = filter::apply::pass(
+    let made = filter::apply::again(
         table,
         job.width,
         job.height,

@@ -1,2 +1,4 @@
 pub mod Rules
 pub mod Writer
+pub mod Answers
+pub mod Numbers

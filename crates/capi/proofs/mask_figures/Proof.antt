@@ -12,7 +12,7 @@ of-figured-requires : tie.Need-of-figured-requires
 of-figured-requires c κs = search needs
 
 returns : tie.Need-returns
-returns c = c .of-figured .ensures ∙ ap ofFigured (c .before .figures .ensures)
+returns c = let said = c .before .figures .ensures in (c .of-figured .ensures ∙ ap ofFigured (said .0), said .1)
 
 pub mask-figures-spec : {M : Type 1} → statement M
 mask-figures-spec = tie.close (tie.spec figures-requires of-figured-requires returns)

@@ -49,6 +49,8 @@ use denote.Enum.Laws as EL
 use Rattle.capi.specs.Calls.{passedBy}
 use Rattle.history.specs.Pass.{passOf}
 use Rattle.job.specs.Core.{at as the-at}
+use Rattle.history.specs.Pass.{passOf}
+use Rattle.job.specs.Core.{at as the-at}
 use Rattle.history.specs.declared.Job.{Job as Rec}
 use Rattle.history.proofs.Job as T
 use Rattle.history.proofs.Job.Laws as T′

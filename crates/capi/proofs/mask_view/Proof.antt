@@ -5,7 +5,7 @@ use borrow.Author.Needs.{needs}
 use Rattle.capi.proofs.PartLaws.{part-refused, part-accepted}
 use Rattle.capi.proofs.mask_view.Statement.{statement}
 use Rattle.capi.proofs.mask_view.Tie as tie
-use Rattle.job.proofs.Ready.{accepted-ready}
+use Rattle.history.proofs.Ready.{accepted-ready}
 use Rattle.job.proofs.Settled.{ready-small}
 
 view-verdict-requires : tie.Need-view-verdict-requires

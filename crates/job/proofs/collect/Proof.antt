@@ -49,6 +49,8 @@ use denote.Enum.Laws as EL
 use Rattle.job.specs.Core.{at as the-at}
 use Rattle.history.specs.Collect.{collectWritten, collectOutput, collectState}
 use Rattle.job.specs.Core.{at as the-at, emptied}
+use Rattle.job.specs.Core.{at as the-at}
+use Rattle.job.specs.Core.{at as the-at}
 use Rattle.history.specs.declared.Job.{Job as Rec}
 use Rattle.history.proofs.Job as T
 use Rattle.history.proofs.Job.Laws as T′
@@ -109,7 +111,7 @@ module _ {M : Type 1} (𝓤 : URA M) (H : Heap 𝓤) (A : Atoms 𝓤) (W : Given
 
   -- what `collect_core` ensures of its result and of the last lists
   abbrev Said : Res → List ℕ → Type 0
-  Said r out′ = (r ≡ emptied (collectWritten (length ((out .now))) (the-at job ((first .now)) ((second .now)))) (collectState (length ((out .now))) (the-at job ((first .now)) ((second .now))))) × (out′ ≡ collectOutput ((out .now)) (the-at job ((first .now)) ((second .now))))
+  Said r out′ = (r ≡ emptied (collectWritten (length ((out .now))) (the-at job ((first .now)) ((second .now)))) (collectState (length ((out .now))) (the-at job ((first .now)) ((second .now))))) × (out′ ≡ collectOutput ((out .now)) (the-at job ((first .now)) ((second .now)))) × (collectState (length ((out .now))) (the-at job ((first .now)) ((second .now))) .first ≡ (first .now)) × (collectState (length ((out .now))) (the-at job ((first .now)) ((second .now))) .second ≡ (second .now))
 
   abbrev to-callee : Callee 𝓤 H A at-mem run .Ghost
   to-callee = (((κ1, (κ2, tt)), (q1, (q2, tt)), tt, (job, (first, (second, (out, tt)))), (job-vals job, (slice-val first ∷ [], (slice-val second ∷ [], (slice-val out ∷ [], tt))))), tt)
@@ -126,7 +128,7 @@ module _ {M : Type 1} (𝓤 : URA M) (H : Heap 𝓤) (A : Atoms 𝓤) (W : Given
   exits r w is out′ l-out e =
       qed W (‵ (fobs γ (T.the-row .coded .code (r .job))) ∷ ‵ (fbor κ0 (Body (mem T.the-row) b o γ)) ∷ ‵ (flft κ0 q0) ∷ (‵ (flft κ1 q1) ⊛ ‵ (flft κ2 q2) ⊛ ‵ ftrue) ∷ ‵ (ShrSlice (named 1) κ1 u8 .own first (slice-val first ∷ [])) ∷ ‵ (ShrSlice (named 1) κ1 u8 .own second (slice-val second ∷ [])) ∷ ‵ (finally u8 (out .name) out′) ∷ []) ∵
       suffices ! _ (ends-at 𝓤 H A f.ended stayed (f.clauses 𝓤 H A at-mem run) W (((κ0, (κ1, (κ2, tt))), (q0, (q1, (q2, tt))), tt, a, vals), tt) (EL.val N.the-type N′.the-laws (r .answer)) (r .answer) (r .job, (tt, (tt, (out′, tt)))) (tt, (tt, (tt, (l-out, tt))))) $
-      says ! (ap (λ (z : Res). z .answer) (e .0), ap (λ (z : Res). z .job) (e .0), e .1) $
+      says ! (ap (λ (z : Res). z .answer) (e .0), ap (λ (z : Res). z .job) (e .0), e .1, e .2, e .3) $
       move ! (2 ∷ 3 ∷ []) $ join ! $ frame ! $ feqI ! (List Val) (vptr b o ∷ []) (vptr b o ∷ []) refl $ fjoin3 ! $ nothing ! $ move ! (4 ∷ 0 ∷ []) $ fjoin ! $ move ! (3 ∷ 0 ∷ []) $ fjoin ! $ move ! (2 ∷ 0 ∷ []) $ fjoin ! $ move ! (1 ∷ 0 ∷ []) $ fjoin ! $ frame ! $
       owned ! N.the-row (Is N.the-row) (EL.makes N.the-type N′.the-plain 𝓤 H A) (r .answer) _ (answer-is r (w ∷ []) is) $ done !
 

@@ -3,7 +3,7 @@
 use mathlib.Core.Path.{sym, _∙_}
 use borrow.Author.Needs.{needs}
 use Rattle.job.proofs.Collects.{same-pixels, unready, unsettled, written, unwritten}
-use Rattle.job.proofs.Ready.{accepted-ready}
+use Rattle.history.proofs.Ready.{accepted-ready}
 use Rattle.job.proofs.collect_core.Statement.{statement}
 use Rattle.job.proofs.collect_core.Tie as tie
 

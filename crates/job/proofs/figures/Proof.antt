@@ -4,7 +4,7 @@ use mathlib.Core.Path.{sym, _∙_}
 use native.Mathlib.Omega.{arith}
 use borrow.Author.Needs.{needs}
 use Rattle.job.proofs.Balance.{balance-stored}
-use Rattle.job.proofs.Ready.{accepted-ready, ready-some}
+use Rattle.history.proofs.Ready.{accepted-ready, ready-some}
 use Rattle.job.proofs.Settled.{ready-small}
 use Rattle.job.proofs.Views.{figures-refused, figures-shown, black-of, few-black}
 use Rattle.job.proofs.figures.Statement.{statement}

@@ -49,6 +49,8 @@ use denote.Enum.Laws as EL
 use Rattle.job.specs.Core.{at as the-at}
 use Rattle.history.specs.Load.{loadVerdict, loadState}
 use Rattle.job.specs.Core.{at as the-at, loaded}
+use Rattle.job.specs.Core.{at as the-at}
+use Rattle.job.specs.Core.{at as the-at}
 use Rattle.history.specs.declared.Job.{Job as Rec}
 use Rattle.history.proofs.Job as T
 use Rattle.history.proofs.Job.Laws as T′
@@ -112,7 +114,7 @@ module _ {M : Type 1} (𝓤 : URA M) (H : Heap 𝓤) (A : Atoms 𝓤) (W : Given
 
   -- what `load_core` ensures of its result and of the last lists
   abbrev Said : Res → List ℕ → Type 0
-  Said r first′ = (r ≡ loaded (loadVerdict table ((file .now)) (the-at job ((first .now)) ((second .now)))) (loadState table ((file .now)) (the-at job ((first .now)) ((second .now))))) × (first′ ≡ loadState table ((file .now)) (the-at job ((first .now)) ((second .now))) .first)
+  Said r first′ = (r ≡ loaded (loadVerdict table ((file .now)) (the-at job ((first .now)) ((second .now)))) (loadState table ((file .now)) (the-at job ((first .now)) ((second .now))))) × (first′ ≡ loadState table ((file .now)) (the-at job ((first .now)) ((second .now))) .first) × (loadState table ((file .now)) (the-at job ((first .now)) ((second .now))) .second ≡ (second .now))
 
   abbrev to-callee : Callee 𝓤 H A at-mem run .Ghost
   to-callee = (((κ1, (κ2, (κ3, tt))), (q1, (q2, (q3, tt))), tt, (job, (table, (file, (first, (second, tt))))), (job-vals job, (LL.val X1.the-type X1′.the-laws table ∷ [], (slice-val file ∷ [], (slice-val first ∷ [], (slice-val second ∷ [], tt)))))), tt)
@@ -129,7 +131,7 @@ module _ {M : Type 1} (𝓤 : URA M) (H : Heap 𝓤) (A : Atoms 𝓤) (W : Given
   exits r w is first′ l-first e =
       qed W (‵ (fobs γ (T.the-row .coded .code (r .job))) ∷ ‵ (fbor κ0 (Body (mem T.the-row) b o γ)) ∷ ‵ (flft κ0 q0) ∷ (‵ (flft κ1 q1) ⊛ ‵ (flft κ2 q2) ⊛ ‵ (flft κ3 q3) ⊛ ‵ ftrue) ∷ ‵ (ShrSlice (named 1) κ1 u8 .own file (slice-val file ∷ [])) ∷ ‵ (finally u8 (first .name) first′) ∷ ‵ (ShrSlice (named 3) κ3 u8 .own second (slice-val second ∷ [])) ∷ []) ∵
       suffices ! _ (ends-at 𝓤 H A f.ended stayed (f.clauses 𝓤 H A at-mem run) W (((κ0, (κ1, (κ2, (κ3, tt)))), (q0, (q1, (q2, (q3, tt)))), tt, a, vals), tt) (EL.val N.the-type N′.the-laws (r .answer)) (r .answer) (r .job, (tt, (tt, (first′, (tt, tt))))) (tt, (tt, (tt, (l-first, (tt, tt)))))) $
-      says ! (ap (λ (z : Res). z .answer) (e .0), ap (λ (z : Res). z .job) (e .0), e .1) $
+      says ! (ap (λ (z : Res). z .answer) (e .0), ap (λ (z : Res). z .job) (e .0), e .1, e .2) $
       move ! (2 ∷ 3 ∷ []) $ join ! $ frame ! $ feqI ! (List Val) (vptr b o ∷ []) (vptr b o ∷ []) refl $ fjoin3 ! $ nothing ! $ move ! (4 ∷ 0 ∷ []) $ fjoin ! $ move ! (3 ∷ 0 ∷ []) $ fjoin ! $ move ! (2 ∷ 0 ∷ []) $ fjoin ! $ owned ! X1.the-row (Is X1.the-row) (LL.makes X1.the-type X1′.the-plain 𝓤 H A) table _ is-table $ fjoin ! $ move ! (1 ∷ 0 ∷ []) $ fjoin ! $ frame ! $
       owned ! N.the-row (Is N.the-row) (EL.makes N.the-type N′.the-plain 𝓤 H A) (r .answer) _ (answer-is r (w ∷ []) is) $ done !
 

@@ -2,8 +2,8 @@
 -- Assumes nothing.
 use mathlib.Core.Path.{refl, sym, _∙_}
 use borrow.Author.Needs.{needs}
-use Rattle.job.proofs.Passes.{pass-refused, pass-stable, pass-loaded}
-use Rattle.job.proofs.Ready.{accepted-ready}
+use Rattle.history.proofs.Passes.{pass-refused, pass-stable, pass-loaded}
+use Rattle.history.proofs.Ready.{accepted-ready}
 use Rattle.job.proofs.pass_core.Statement.{statement}
 use Rattle.job.proofs.pass_core.Tie as tie
 

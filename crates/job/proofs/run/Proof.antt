@@ -49,6 +49,9 @@ use denote.Enum.Laws as EL
 use Rattle.job.specs.Core.{at as the-at}
 use Rattle.history.specs.Run.{runOf}
 use Rattle.job.specs.Core.{at as the-at, stepped}
+use Rattle.job.specs.Core.{at as the-at}
+use Rattle.history.specs.Run.{runOf}
+use Rattle.job.specs.Core.{at as the-at}
 use Rattle.history.specs.declared.Job.{Job as Rec}
 use Rattle.history.proofs.Job as T
 use Rattle.history.proofs.Job.Laws as T′

@@ -2,8 +2,9 @@
 -- Assumes nothing.
 use mathlib.Core.Path.{refl, sym, _∙_}
 use borrow.Author.Needs.{needs}
-use Rattle.job.proofs.Runs.{run-refused, run-stable}
-use Rattle.job.proofs.Ready.{accepted-ready}
+use Rattle.history.proofs.Runs.{run-refused}
+use Rattle.job.proofs.Runs.{run-stable}
+use Rattle.history.proofs.Ready.{accepted-ready}
 use Rattle.job.proofs.run_core.Statement.{statement}
 use Rattle.job.proofs.run_core.Tie as tie
 

@@ -2,7 +2,7 @@
 -- Assumes nothing.
 use mathlib.Core.Path.{sym, _∙_}
 use borrow.Author.Needs.{needs}
-use Rattle.job.proofs.Ready.{accepted-ready}
+use Rattle.history.proofs.Ready.{accepted-ready}
 use Rattle.job.proofs.Views.{view-refused, view-shown}
 use Rattle.job.proofs.view.Statement.{statement}
 use Rattle.job.proofs.view.Tie as tie
@@ -30,7 +30,7 @@ image-requires c κs =
 returns-2 : tie.Need-returns-2
 returns-2 c =
     let told = c .before in
-    c .image .ensures ∙ view-shown _ (sym (told .before .before .ready .ensures) ∙ told .enum-told2 .given .1)
+    view-shown _ (sym (told .before .before .ready .ensures) ∙ told .enum-told2 .given .1) (c .image .ensures)
 
 pub view-spec : {M : Type 1} → statement M
 view-spec =

@@ -16,7 +16,7 @@ same-length c = search needs
 returns : tie.Need-returns
 returns c =
     let said = c .before .before .before .before .collect-core .ensures in
-    (collect-turned (said .0) (c .of-written .ensures), said .1)
+    (collect-turned (said .0) (c .of-written .ensures), said .1, said .2, said .3)
 
 pub collect-spec : {M : Type 1} → statement M
 collect-spec =

@@ -16,7 +16,7 @@ same-length c = search needs
 returns : tie.Need-returns
 returns c =
     let said = c .before .before .before .before .load-core .ensures in
-    (load-turned (said .0) (c .of-verdict .ensures), said .1)
+    (load-turned (said .0) (c .of-verdict .ensures), said .1, said .2)
 
 pub load-spec : {M : Type 1} → statement M
 load-spec =

@@ -1,10 +1,8 @@
--- `filter::preview::answer` meets its contract: the rule of the 512 answers is one test, which antt computes. Assumes nothing.
+-- `filter::preview::answer` meets its contract: what is looked up is the pattern. Assumes nothing.
 use mathlib.Core.Path.{_≡_, ap, _∙_}
 use Prim.Native.Nat.{_+_, _*_}
 use native.Mathlib.Omega.{arith}
 use borrow.Author.Needs.{needs}
-use Rattle.seq.specs.Bits.{bit}
-use Rattle.seq.specs.Tab.{upTo}
 use Rattle.seq.proofs.Tab.{getD-tab}
 use Rattle.filter.specs.Preview.{pattern, fiveOrMore}
 use Rattle.filter.proofs.PreviewLaws.{nine-pattern}
@@ -49,12 +47,16 @@ mul-nine-2 c = search needs
 add-nine-2 : tie.Need-add-nine-2
 add-nine-2 c = search needs
 
+answers-requires : tie.Need-answers-requires
+answers-requires c κs = tt
+
 array-read-result : tie.Need-array-read-result
-array-read-result c = omega (arith, nine c)
+array-read-result c = omega (arith, nine (c .before), c .answers .ok)
 
 returns : tie.Need-returns
-unfolding fiveOrMore bit upTo
-returns c = getD-tab fiveOrMore 512 _ 0 (array-read-result c) ∙ ap fiveOrMore (nine c)
+returns c =
+    rw (c .answers .ensures)
+    (getD-tab fiveOrMore 512 _ 0 (omega (arith, nine (c .before))) ∙ ap fiveOrMore (nine (c .before)))
 
 pub answer-spec : {M : Type 1} → statement M
 answer-spec =
@@ -70,5 +72,6 @@ answer-spec =
     three-requires-3
     mul-nine-2
     add-nine-2
+    answers-requires
     array-read-result
     returns)

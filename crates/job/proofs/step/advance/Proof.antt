@@ -18,11 +18,11 @@ blank-requires c κs = tt
 image-requires : tie.Need-image-requires
 image-requires c κs = search needs
 
-slice-aggregate-pass : tie.Need-slice-aggregate-pass
-slice-aggregate-pass c = search needs
+slice-aggregate-again : tie.Need-slice-aggregate-again
+slice-aggregate-again c = search needs
 
-pass-requires : tie.Need-pass-requires
-pass-requires c κs = tt
+again-requires : tie.Need-again-requires
+again-requires c κs = tt
 
 enum-known-made : tie.Need-enum-known-made
 enum-known-made c = search needs
@@ -30,7 +30,7 @@ enum-known-made c = search needs
 array-share-prefix-next : tie.Need-array-share-prefix-next
 array-share-prefix-next c =
     let pass = c .before .before .before .before in
-    omega (arith, pass .pass .kept .1 .1 .1 .1 .0, ready-small (pass .before .before .before .before .before .before .before .before .before .before .pre))
+    omega (arith, pass .again .kept .1 .1 .1 .1 .0, ready-small (pass .before .before .before .before .before .before .before .before .before .before .pre))
 
 slice-aggregate-settle : tie.Need-slice-aggregate-settle
 slice-aggregate-settle c = part-length _ _ (array-share-prefix-next (c .before))
@@ -41,7 +41,7 @@ settle-requires c κs =
     let pass = made .before .before .before in
     let image = pass .before .before in
     let ready = image .before .before .before .before .before .before .before .before .pre in
-    (ready, computed ready (image .image .ensures) (omega (arith, ready-small ready)) (pass .pass .ensures) (made .made .given .1))
+    (ready, computed ready _ (image .image .ensures) (pass .again .ensures) (omega (arith, ready-small ready)) (made .made .given .1))
 
 enum-known-made-2 : tie.Need-enum-known-made-2
 enum-known-made-2 c = search needs
@@ -66,7 +66,7 @@ returns-2 c =
     let pass = c .before .before .before .before in
     let image = pass .before .before in
     let ready = image .before .before .before .before .before .before .before .before .pre in
-    never-refused ready (image .image .ensures) (omega (arith, ready-small ready)) (pass .pass .ensures) (c .before .made2 .given .1)
+    never-refused ready _ (image .image .ensures) (pass .again .ensures) (omega (arith, ready-small ready)) (c .before .made2 .given .1)
 
 pub advance-spec : {M : Type 1} → statement M
 advance-spec =
@@ -75,8 +75,8 @@ advance-spec =
     mul-pixels
     blank-requires
     image-requires
-    slice-aggregate-pass
-    pass-requires
+    slice-aggregate-again
+    again-requires
     enum-known-made
     array-share-prefix-next
     slice-aggregate-settle

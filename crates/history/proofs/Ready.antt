@@ -1,7 +1,8 @@
 -- A job that is ready: sound, and at stage 1 or 2.
 --     accepted-ready, ready-accepted     exactly then 14 and 16 do not speak
 --     ready-image, ready-next            its image, and the image after a pass, are images
---     ready-changed                      a changing pass leaves it ready
+--     ready-writable                     the image writer accepts its image
+--     ready-changed, ready-stable        a changing pass leaves it ready, and so does a quiet one
 -- Assumes nothing.
 use mathlib.Core.Bool.{true, false, not, _||_}
 use mathlib.Core.List.{List·Memᴰ}
@@ -10,20 +11,23 @@ use mathlib.Core.Path.{_≡_, refl}
 use Prim.Native.Nat.{ℕ, _+_, _≤_, _<_}
 use native.Mathlib.Nat.{mul-pos}
 use native.Mathlib.Omega.{arith}
-use borrow.Author.Tests.{ltb-false, eqb-false, le-ltb, ne-eqb, le-leb}
+use borrow.Author.Tests.{ltb-false, eqb-false, le-ltb, ne-eqb, le-leb, leb-true}
 use lib.Dec.{ltb, eqb, leb}
-use lib.ListN.{length}
+use lib.ListN.{length, getD}
 use lib.Seq.{length-take-le}
 use Rattle.filter.specs.Image.{IsImage}
 use Rattle.filter.proofs.Operator.{pass-image}
-use Rattle.history.specs.Pass.{nextImage, exceeds, withNext, changedJob}
+use Rattle.history.specs.Pass.{nextImage, exceeds, withNext, changedJob, stableJob}
 use Rattle.history.specs.State.{State, pixels, even, present, image, inconsistent, unsound, soundRule, loadedRule, readyVerdict}
-use Rattle.history.proofs.Areas.{next-job, next-first, next-second, next-changed}
+use Rattle.history.proofs.Areas.{next-job, next-first, next-second, next-changed, next-stable}
 use Rattle.history.proofs.Images.{none-above, sized-sides}
+use Rattle.image.proofs.PixelsOf.{good-pixels}
+use Rattle.image.specs.File.{pixelVerdict}
 use Rattle.image.specs.Size.{badSize}
-use Rattle.job.specs.Ready.{Ready}
+use Rattle.history.specs.Sound.{Ready}
 use Rattle.seq.specs.Lists.{any}
 use Rattle.seq.proofs.Lists.{clash, either, any-intro, all-intro, not-true-false}
+use Rattle.seq.proofs.Members.{all-getD}
 use Rattle.seq.proofs.Tests.{or-none-left, or-none-right}
 use Rattle.table.specs.Record.{recordVerdict}
 use Rattle.verdict.specs.declared.Verdict.{Verdict}
@@ -36,7 +40,7 @@ is-accepted Accepted e = refl
 is-accepted (Refused r) e = clash refl e
 
 -- what a sound record at stage 1 or 2 says, one condition of 14 after the other
-consistent-ready : (s : State) → ltb 2 (s .job .stage) ≡ false → eqb (s .job .stage) 0 ≡ false → inconsistent s ≡ false → Ready s
+pub consistent-ready : (s : State) → ltb 2 (s .job .stage) ≡ false → eqb (s .job .stage) 0 ≡ false → inconsistent s ≡ false → Ready s
 unfolding inconsistent
 consistent-ready s high low e =
     let e₁ = or-none-right (badSize (s .job .width) (s .job .height)) _ e in
@@ -67,7 +71,7 @@ accepted-ready s e = consistent-ready s (or-none-left (ltb 2 (s .job .stage)) _ 
     begun = refuseIf-accepted (eqb (s .job .stage) 0) 16 0 (orElse-left (loadedRule s) Accepted (orElse-right (soundRule s) _ e))
 
 module _ {s : State} (r : Ready s) where
-  ready-sound : unsound s ≡ false
+  pub ready-sound : unsound s ≡ false
   unfolding unsound inconsistent
   ready-sound =
       rw (
@@ -104,6 +108,16 @@ module _ {s : State} (r : Ready s) where
       low : (v : ℕ) → List·Memᴰ v (image s) → leb v 1 ≡ true
       low v m = le-leb v 1 (ltb-false 1 v (not-true-false (ltb 1 v) (λ e. clash (any-intro (ltb 1) m e) (r .binary))))
 
+  -- the image writer accepts it
+  pub ready-writable : pixelVerdict (s .job .width) (s .job .height) (image s) ≡ Accepted
+  ready-writable =
+      good-pixels (s .job .width) (s .job .height) (image s)
+      (record {
+        size = r .sized;
+        count = ready-image .sized;
+        small = λ i l. leb-true (getD (image s) i 0) 1 (all-getD (λ v. leb v 1) (image s) 0 (ready-image .binary) refl i);
+      })
+
   -- it has a pixel
   pub ready-some : 0 < pixels (s .job)
   ready-some = mul-pos (ready-image .wide) (ready-image .high)
@@ -128,3 +142,20 @@ module _ {s : State} (r : Ready s) where
     where
       job : withNext (changedJob s) s .job ≡ changedJob s
       job = next-job (changedJob s) s
+
+  pub ready-stable : Ready (withNext (stableJob s) s)
+  unfolding stableJob
+  ready-stable = record {
+    begun = rw job (omega arith);
+    staged = rw job (omega arith);
+    sized = rw job (r .sized);
+    table = rw job (r .table);
+    first = rw job (omega (arith, next-first (stableJob s) s (omega (arith, ready-next .sized))));
+    second = rw job (omega (arith, next-second (stableJob s) s (omega (arith, ready-next .sized))));
+    binary = rw (next-stable s) (r .binary);
+    passes = rw job (r .passes);
+    counts = rw job (r .counts);
+  }
+    where
+      job : withNext (stableJob s) s .job ≡ stableJob s
+      job = next-job (stableJob s) s

@@ -1,0 +1,175 @@
+-- What a call leaves of the areas: their lengths, and every byte past the image (01, The job).
+--     drop-over            bytes past what is put at an area's front stay
+--     Stays n s u          from s to u the areas keep their lengths, and their bytes from n on
+--     load-stays, pass-stays, run-stays     load, pass and run
+--     kept                 the claim, for every call
+-- Assumes nothing.
+use mathlib.Core.Bool.{Bool, true, false, _||_}
+use mathlib.Core.List.{List, [], _∷_}
+use mathlib.Core.Path.{_≡_, refl, sym, ap, ap₂, _∙_}
+use Prim.Native.Nat.{ℕ, zero, suc, _*_, _≤_}
+use native.Mathlib.Omega.{arith}
+use borrow.Author.Tests.{ltb-false}
+use lib.Dec.{ltb}
+use lib.ListN.{length, drop}
+use lib.Seq.{drop-at}
+use Rattle.history.specs.declared.Job.{Job}
+use Rattle.history.specs.Call.{Call, load, pass, run, view, figures, collect, isLoad, stateOf}
+use Rattle.history.specs.Collect.{collectVerdict, collectAs, collectState}
+use Rattle.history.specs.Demand1.{afterPasses, Goes, reach, Areas}
+use Rattle.history.specs.Lists.{lengthsOf}
+use Rattle.history.specs.Load.{loadRules, loadVerdict, loadAs, loadState}
+use Rattle.history.specs.Pass.{Outcome, nextImage, withNext, changedJob, stableJob, passOf}
+use Rattle.history.specs.Run.{runOf}
+use Rattle.history.specs.Sound.{Ready}
+use Rattle.history.specs.State.{State, pixels, even, soundRule}
+use Rattle.history.proofs.Areas.{length-over}
+use Rattle.history.proofs.Passes as passes
+use Rattle.history.proofs.Passes.{Way, way, changed}
+use Rattle.history.proofs.Ready.{ready-next}
+use Rattle.history.proofs.Runs.{goes-next, ends}
+use Rattle.image.specs.File.{fileVerdict, pixelsOf}
+use Rattle.image.specs.Header.{widthOf, heightOf}
+use Rattle.image.specs.RoundTrip.{imageOf}
+use Rattle.seq.proofs.Lists.{clash, either}
+use Rattle.seq.proofs.Tab.{length-tab}
+use Rattle.seq.proofs.Tests.{or-none-left, or-none-right}
+use Rattle.table.specs.declared.Table.{Table}
+use Rattle.table.specs.Record.{recordVerdict}
+use Rattle.verdict.specs.declared.Refusal.{Refusal}
+use Rattle.verdict.specs.declared.Verdict.{Verdict}
+use Rattle.verdict.specs.declared.Verdict.the-variants.{Accepted, Refused}
+use Rattle.verdict.specs.Rules.{refuseIf, judge}
+use Rattle.verdict.specs.Writer.{over}
+use Rattle.verdict.proofs.Rules.{judge-accepted, refuseIf-accepted}
+use mathlib.Core.List.{List·Memᴰ·head, List·Memᴰ·tail}
+use mathlib.Core.Logic.{⊎-elim}
+
+drop-over : (px area : List ℕ) (n : ℕ) → length px ≡ n → drop n (over px area) ≡ drop n area
+unfolding over
+drop-over px area n e = drop-at px (drop (length px) area) n e ∙ ap (λ (m : ℕ). drop m area) e
+
+record Stays (n : ℕ) (s u : State) : Type 0 where
+  first-long : length (u .first) ≡ length (s .first)
+  second-long : length (u .second) ≡ length (s .second)
+  first-past : drop n (u .first) ≡ drop n (s .first)
+  second-past : drop n (u .second) ≡ drop n (s .second)
+
+same : (n : ℕ) (s : State) → Stays n s s
+same n s = record { first-long = refl; second-long = refl; first-past = refl; second-past = refl }
+
+next : {n : ℕ} {s t u : State} → Stays n s t → Stays n t u → Stays n s u
+next a b = record {
+  first-long = b .first-long ∙ a .first-long;
+  second-long = b .second-long ∙ a .second-long;
+  first-past = b .first-past ∙ a .first-past;
+  second-past = b .second-past ∙ a .second-past;
+}
+
+-- the new image in the area that does not hold the present one
+with-next : {s : State} (j : Job) → Ready s → Stays (pixels (s .job)) s (withNext j s)
+unfolding withNext
+with-next {s} j r = ⊎-elim (λ e. rw e to-second) (λ e. rw e to-first) (either (even (s .job .passes)))
+  where
+    sized : length (nextImage s) ≡ pixels (s .job)
+    sized = ready-next r .sized
+
+    to-second : Stays (pixels (s .job)) s (record { job = j; first = s .first; second = over (nextImage s) (s .second) })
+    to-second = record {
+      first-long = refl;
+      second-long = length-over (nextImage s) (s .second) (omega (arith, sized, r .second));
+      first-past = refl;
+      second-past = drop-over (nextImage s) (s .second) (pixels (s .job)) sized;
+    }
+
+    to-first : Stays (pixels (s .job)) s (record { job = j; first = over (nextImage s) (s .first); second = s .second })
+    to-first = record {
+      first-long = length-over (nextImage s) (s .first) (omega (arith, sized, r .first));
+      second-long = refl;
+      first-past = drop-over (nextImage s) (s .first) (pixels (s .job)) sized;
+      second-past = refl;
+    }
+
+pass-stays : (s : State) → Stays (pixels (s .job)) s (passOf s .state)
+pass-stays s = by (way s)
+  where
+    by : Way s → Stays (pixels (s .job)) s (passOf s .state)
+    by (passes.refused x e p) = rw p (same (pixels (s .job)) s)
+    by (passes.resting r z p) = rw p (same (pixels (s .job)) s)
+    by (passes.quiet r z d p) = rw p (with-next (stableJob s) r)
+    by (passes.changes r z d x p) = rw p (with-next (changedJob s) r)
+    by (passes.stopped r z d x p) = rw p (same (pixels (s .job)) s)
+
+-- a run is passes on as many pixels
+passes-stay : (k : ℕ) (s : State) → Goes k s → Stays (pixels (s .job)) s (passOf (afterPasses k s) .state)
+passes-stay zero s g = pass-stays s
+passes-stay (suc k) s g =
+    next (pass-stays s) (rw (changed s (g 0 (omega arith)) .same) at (passes-stay k (passOf s .state) (goes-next k s g)))
+
+run-stays : (s : State) → Stays (pixels (s .job)) s (runOf s .state)
+run-stays s = let x = ends s in rw (x .last) (passes-stay (x .finished) s (x .goes))
+
+-- an accepted load has room in the first area
+load-room : (t : Table) (f : List ℕ) (s : State) → loadVerdict t f s ≡ Accepted → widthOf f * heightOf f ≤ length (s .first)
+unfolding loadVerdict
+load-room t f s e =
+    let size = widthOf f * heightOf f in
+    let room = refuseIf-accepted (ltb (length (s .first)) size || ltb (length (s .second)) size) 13 0
+    (judge-accepted {vs = loadRules t f s} e (List·Memᴰ·tail (List·Memᴰ·tail (List·Memᴰ·tail (List·Memᴰ·tail (List·Memᴰ·head refl)))))) in
+    ltb-false (length (s .first)) size (or-none-left (ltb (length (s .first)) size) (ltb (length (s .second)) size) room)
+
+load-stays : (t : Table) (f : List ℕ) (s : State) → Stays (widthOf f * heightOf f) s (loadState t f s)
+unfolding loadState imageOf pixelsOf
+load-stays t f s = by (loadVerdict t f s) refl
+  where
+    sized : length (imageOf f) ≡ widthOf f * heightOf f
+    sized = length-tab _ (widthOf f * heightOf f)
+
+    by : (v : Verdict) → loadVerdict t f s ≡ v → Stays (widthOf f * heightOf f) s (loadAs v t f s)
+    by (Refused r) e = same (widthOf f * heightOf f) s
+    by Accepted e = record {
+      first-long = length-over (imageOf f) (s .first) (omega (arith, sized, load-room t f s e));
+      second-long = refl;
+      first-past = drop-over (imageOf f) (s .first) (widthOf f * heightOf f) sized;
+      second-past = refl;
+    }
+
+collect-stays : (n : ℕ) (s : State) → Stays 0 s (collectState n s)
+unfolding collectState
+collect-stays n s = by (collectVerdict n s)
+  where
+    by : (v : Verdict) → Stays 0 s (collectAs v s)
+    by Accepted = record { first-long = refl; second-long = refl; first-past = refl; second-past = refl }
+    by (Refused r) = same 0 s
+
+stays : (c : Call) (s : State) → Stays (reach c s) s (stateOf c s)
+unfolding stateOf
+stays (load t f) s = load-stays t f s
+stays pass s = pass-stays s
+stays run s = run-stays s
+stays view s = same 0 s
+stays figures s = same 0 s
+stays (collect out) s = collect-stays (length out) s
+
+-- load fills the first area only
+load-second : (c : Call) (s : State) → isLoad c ≡ true → stateOf c s .second ≡ s .second
+unfolding stateOf loadState
+load-second (load t f) s l = by (loadVerdict t f s)
+  where
+    by : (v : Verdict) → loadAs v t f s .second ≡ s .second
+    by Accepted = refl
+    by (Refused r) = refl
+load-second pass s l = clash l refl
+load-second run s l = clash l refl
+load-second view s l = clash l refl
+load-second figures s l = clash l refl
+load-second (collect out) s l = clash l refl
+
+pub kept : (c : Call) (s : State) → Areas c s
+unfolding lengthsOf
+kept c s = let x = stays c s in record {
+  lengths = ap₂ (λ (a b : ℕ). record { first = a; second = b }) (x .first-long) (x .second-long);
+  first-past = x .first-past;
+  second-past = x .second-past;
+  second-stays = load-second c s;
+}

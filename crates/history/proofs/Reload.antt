@@ -1,0 +1,203 @@
+-- What an accepted collect wrote, loaded again with its table, stays until a collect is accepted.
+--     Same e d, same-passed, same-ran     two entries with one table, size and first image; so are those before and after passes
+--     Keeps e w, keeps-step, keeps-play   the history holds such an entry, and keeps one until a collect is accepted
+--     by-answer                           what an accepted collect wrote is the file of the last image
+--     reloads                             the claim
+-- Assumes nothing.
+use mathlib.Core.Bool.{Bool, true, false, cond, not, _&&_, _||_}
+use mathlib.Core.List.{List, [], _∷_}
+use mathlib.Core.Logic.{⊎-elim}
+use mathlib.Core.Path.{_≡_, refl, sym, ap, _∙_, subst}
+use Prim.Native.Nat.{ℕ, zero, suc, _+_, _*_, _≤_}
+use native.Mathlib.Omega.{arith}
+use borrow.Author.Tests.{not-false, le-ltb}
+use lib.ListN.{length, take}
+use Rattle.filter.specs.Image.{differs}
+use Rattle.filter.specs.Pass.{Stable}
+use Rattle.history.specs.Answered.{fileOf, answeredBy}
+use Rattle.history.specs.Call.{Call, load, pass, run, view, figures, collect, isCollect, collected, answerOf, stateOf, refusalOf}
+use Rattle.history.specs.Collect.{collectVerdict, collectState}
+use Rattle.history.specs.Demand3.{Rests, Reloads}
+use Rattle.history.specs.History.{Entry, History, empty, holds, Lengths, entered, nextOf, joined, marked, passed, passedFor, ran, refusedBy, accepted, afterAs, after}
+use Rattle.history.specs.Lists.{Course, lengthsOf, tallied, step, play, uncollected, firstOf}
+use Rattle.history.specs.State.{State, emptyJob}
+use Rattle.history.proofs.After.{held}
+use Rattle.history.proofs.Areas.{take-over}
+use Rattle.history.proofs.Collect.{collect-held}
+use Rattle.history.proofs.Entries.{cond-true, cond-false}
+use Rattle.history.proofs.Kept.{kept}
+use Rattle.history.proofs.Lists.{keeps, play-related}
+use Rattle.history.proofs.Ready.{ready-writable}
+use Rattle.history.proofs.Refused.{answered, refused}
+use Rattle.history.proofs.Related.{Held, Related}
+use Rattle.history.proofs.Run.{course}
+use Rattle.history.proofs.Sound.{held-ready}
+use Rattle.history.proofs.Twins.{rests}
+use Rattle.image.proofs.RoundTrip.{image-round-trip}
+use Rattle.image.specs.File.{imageBytes, pixelVerdict}
+use Rattle.image.specs.RoundTrip.{ReadBack}
+use Rattle.seq.proofs.Lists.{clash, either, and-left, and-right}
+use Rattle.verdict.specs.declared.Refusal.{Refusal}
+use Rattle.verdict.specs.declared.Verdict.{Verdict}
+use Rattle.verdict.specs.declared.Verdict.the-variants.{Accepted, Refused}
+use Rattle.verdict.specs.declared.Written.the-variants as written
+use Rattle.verdict.specs.Rules.{isAccepted, refuseIf, judge}
+use Rattle.verdict.specs.Writer.{over, writtenOf, outputOf}
+use Rattle.verdict.proofs.Rules.{orElse-left, refuseIf-accepted}
+
+record Same (e d : Entry) : Type 0 where
+  table : d .table ≡ e .table
+  width : d .width ≡ e .width
+  height : d .height ≡ e .height
+  first : firstOf d ≡ firstOf e
+
+same : (e : Entry) → Same e e
+same e = record { table = refl; width = refl; height = refl; first = refl }
+
+then : {e d c : Entry} → Same e d → Same d c → Same e c
+then a b = record {
+  table = b .table ∙ a .table;
+  width = b .width ∙ a .width;
+  height = b .height ∙ a .height;
+  first = b .first ∙ a .first;
+}
+
+-- a pass leaves the entry, lengthens its row at the other end, or sets the mark
+same-passed : (e : Entry) → Same e (passed e)
+unfolding passed joined marked
+same-passed e = by (e .settled) (differs (e .last) (nextOf e))
+  where
+    by : (b d : Bool) → Same e (cond b e (cond d (joined e) (marked e)))
+    by true d = same e
+    by false true = record { table = refl; width = refl; height = refl; first = refl }
+    by false false = record { table = refl; width = refl; height = refl; first = refl }
+
+same-for : (n : ℕ) (e : Entry) → Same e (passedFor n e)
+same-for zero e = same e
+same-for (suc n) e = then (same-passed e) (same-for n (passed e))
+
+same-ran : (e : Entry) → Same e (ran e)
+unfolding ran
+same-ran e = same-for (e .width * e .height + 1) e
+
+-- the history holds an entry like e
+record Keeps (e : Entry) (w : Course) : Type 0 where
+  entry : Entry
+  held-by : w .history ≡ holds entry
+  like : Same e entry
+
+-- so it does after a call that is no accepted collect
+keeps-call : (c : Call) {s : State} {e : Entry} {n : ℕ} → Held s e n → not (isCollect c && isAccepted (refusalOf (answerOf c s))) ≡ true
+    → Keeps e (step c (course s e n))
+unfolding step after refusedBy accepted
+keeps-call (load t f) {s} {e} r u = record { entry = e; held-by = refl; like = same e }
+keeps-call pass {s} {e} r u = record { entry = passed e; held-by = refl; like = same-passed e }
+keeps-call run {s} {e} r u = record { entry = ran e; held-by = refl; like = same-ran e }
+keeps-call view {s} {e} r u = record { entry = e; held-by = refl; like = same e }
+keeps-call figures {s} {e} r u = record { entry = e; held-by = refl; like = same e }
+keeps-call (collect out) {s} {e} {n} r u = record { entry = e; held-by = by (refusedBy (collect out) (lengthsOf s) (holds e)) refl; like = same e }
+  where
+    by : (v : Verdict) → refusedBy (collect out) (lengthsOf s) (holds e) ≡ v → afterAs v (collect out) (holds e) ≡ holds e
+    by (Refused x) q = refl
+    by Accepted q = clash u (ap (λ (v : Verdict). not (isAccepted v)) (refused (collect out) s (holds e) n r ∙ q))
+
+keeps-play : (cs : List Call) (w : Course) (e : Entry) → Related w → Keeps e w → uncollected cs w ≡ true → Keeps e (play cs w)
+keeps-play [] w e r k u = k
+keeps-play (c ∷ cs) w e r k u =
+    keeps-play cs (step c w) e (keeps c (w .state) (w .history) (w .tally) r) next (and-right (not (isCollect c && isAccepted (refusalOf (answerOf c (w .state))))) _ u)
+  where
+    here : Held (w .state) (k .entry) (w .tally)
+    here = held w r (k .entry) (k .held-by)
+
+    next : Keeps e (step c w)
+    next =
+        let x = keeps-call c here (and-left _ (uncollected cs (step c w)) u) in
+        let same-course : course (w .state) (k .entry) (w .tally) ≡ w = ap (λ (H : History). record { state = w .state; history = H; tally = w .tally }) (sym (k .held-by)) in
+        record { entry = x .entry; held-by = ap (λ (v : Course). step c v .history) (sym same-course) ∙ x .held-by; like = then (k .like) (x .like) }
+
+-- what a writer's answer says of its verdict
+by-answer : (v : Verdict) (file out : List ℕ) {m : ℕ} {after : List ℕ} → collected (writtenOf v file) (outputOf v file out) ≡ collected (written.Length m) after
+    → (v ≡ Accepted) × (take m after ≡ file)
+by-answer Accepted file out {m} {after} q =
+    let n : length file ≡ m = cc in
+    let o : over file out ≡ after = cc in
+    (refl, ap (take m) (sym o) ∙ take-over file out m n)
+by-answer (Refused x) file out q = absurd (let z : _≡_ {A = ℕ} 0 1 = cc in omega arith)
+
+module _ {s : State} {e : Entry} {n : ℕ} (r : Held s e n) where
+  -- the file of the last image is accepted, and gives it back
+  back : ReadBack (e .width) (e .height) (e .last)
+  back = image-round-trip .image-back (e .width) (e .height) (e .last) (rw (r .shown, r .job) at (ready-writable (held-ready r)))
+
+  module _ (out : List ℕ) (ok : refusedBy (collect out) (lengthsOf s) (holds e) ≡ Accepted) where
+    settled : e .settled ≡ true
+    unfolding refusedBy
+    settled = not-false (e .settled) (refuseIf-accepted (not (e .settled)) 17 0 (orElse-left _ _ ok))
+
+    -- record and areas after the collect
+    abbrev left : State
+    left = collectState (length out) s
+
+    after-collect : step (collect out) (course s e n) ≡ record { state = left; history = empty; tally = 0 }
+    unfolding step stateOf after accepted tallied
+    after-collect = rw ok
+
+    emptied : left .job ≡ emptyJob
+    unfolding collectState
+    emptied = rw (collect-held r out ∙ ok)
+
+    -- both areas are as long as they were
+    room : lengthsOf left ≡ lengthsOf s
+    unfolding stateOf
+    room = kept (collect out) s .lengths
+
+    abbrev again : Call
+    again = load (e .table) (fileOf e)
+
+    -- so the load is accepted
+    fitting : refusedBy again (lengthsOf s) empty ≡ Accepted
+    unfolding refusedBy fileOf lengthsOf
+    fitting = rw (r .accepted, back .accepted, back .width, back .height, le-ltb _ _ (r .first-long), le-ltb _ _ (r .second-long))
+
+    admitted : refusedBy again (lengthsOf left) empty ≡ Accepted
+    admitted = ap (λ (k : Lengths). refusedBy again k empty) room ∙ fitting
+
+    abbrev between : Course
+    between = record { state = left; history = empty; tally = 0 }
+
+    -- the history then holds an entry whose first image is the last one, which is stable
+    begun : Keeps (entered (e .table) (fileOf e)) (step again between)
+    unfolding step after accepted
+    begun = record { entry = entered (e .table) (fileOf e); held-by = rw admitted; like = same (entered (e .table) (fileOf e)) }
+
+    like-last : (d : Entry) → Same (entered (e .table) (fileOf e)) d
+        → (firstOf d ≡ e .last) × Stable (d .table) (d .width) (d .height) (firstOf d)
+    unfolding entered fileOf
+    like-last d x =
+        let first : firstOf d ≡ e .last = x .first ∙ back .pixels in
+        (first, rw (first, x .table, x .width ∙ back .width, x .height ∙ back .height) (r .stable settled))
+
+    stays : (cs : List Call) → uncollected cs (step again between) ≡ true → Rests (e .last) (play cs (step again between) .state)
+    stays cs u =
+        let related : Related between = emptied in
+        let loaded = keeps again left empty 0 related in
+        let k = keeps-play cs (step again between) (entered (e .table) (fileOf e)) loaded begun u in
+        let last = play-related cs (step again between) loaded in
+        let (first, stable) = like-last (k .entry) (k .like) in
+        subst (λ (img : List ℕ). Rests img (play cs (step again between) .state)) first
+        (rests (held (play cs (step again between)) last (k .entry) (k .held-by)) stable)
+
+    reloads-held : Reloads (step (collect out) (course s e n)) e (fileOf e)
+    reloads-held =
+        subst (λ (w : Course). Reloads w e (fileOf e)) (sym after-collect)
+        (record { accepted = refused again left empty 0 emptied ∙ admitted; rests = stays })
+
+pub reloads : (w : Course) → Related w → (e : Entry) → w .history ≡ holds e → (out : List ℕ) {m : ℕ} {after : List ℕ}
+    → answerOf (collect out) (w .state) ≡ collected (written.Length m) after → Reloads (step (collect out) w) e (take m after)
+unfolding answeredBy
+reloads w r e q out {m} {after} a =
+    let h = held w r e q in
+    let (ok, wrote) =
+    by-answer (refusedBy (collect out) (lengthsOf (w .state)) (holds e)) (fileOf e) out (sym (answered (collect out) (w .state) (holds e) (w .tally) h) ∙ a) in
+    let here : course (w .state) e (w .tally) ≡ w = ap (λ (H : History). record { state = w .state; history = H; tally = w .tally }) (sym q) in
+    rw wrote (subst (λ (v : Course). Reloads (step (collect out) v) e (fileOf e)) here (reloads-held h out ok))

@@ -1,0 +1,53 @@
+-- What each call answers, by the history alone (01: the book): no record and no area is looked at.
+--     restIf b            a pass or a run answers "at rest" where the mark stands afterwards, else "changed"
+--     fileOf e            the file of the last image
+--     figuresBy e         balance and cover, counted from the row of images
+--     answeredBy c n H    the answer, and what is left in an output
+-- Assumes nothing.
+use mathlib.Core.Bool.{Bool, cond}
+use mathlib.Core.List.{List}
+use Prim.Native.Nat.{ℕ, _*_}
+use lib.IntN.{subℕ}
+use Rattle.filter.specs.Image.{black, added, removed}
+use Rattle.history.specs.declared.Figured.{Figured}
+use Rattle.history.specs.declared.Figured.the-variants.{Figures}
+use Rattle.history.specs.declared.Passed.{Passed}
+use Rattle.history.specs.declared.Passed.the-variants.{Changed, Stable}
+use Rattle.history.specs.Call.{Call, load, pass, run, view, figures, collect, Answer, loaded, passed, shown, figured, collected, refusing}
+use Rattle.history.specs.History as book
+use Rattle.history.specs.History.{Entry, History, empty, holds, Lengths, ran, refusedBy}
+use Rattle.history.specs.Lists.{overSteps}
+use Rattle.history.specs.View.{cover}
+use Rattle.image.specs.File.{imageBytes}
+use Rattle.verdict.specs.declared.Refusal.{Refusal}
+use Rattle.verdict.specs.declared.Verdict.the-variants.{Accepted}
+use Rattle.verdict.specs.Rules.{refusal}
+use Rattle.verdict.specs.Writer.{writtenOf, outputOf}
+
+abbrev pub restIf : Bool → Passed
+restIf b = cond b Stable Changed
+
+unfoldable pub fileOf : Entry → List ℕ
+fileOf e = imageBytes (e .width) (e .height) (e .last)
+
+unfoldable pub figuresBy : Entry → Figured
+figuresBy e = Figures (subℕ (overSteps added e) (overSteps removed e)) (cover (black (e .last)) (e .width * e .height))
+
+-- 16
+abbrev nothing : Refusal
+nothing = refusal 16 0
+
+unfoldable pub answeredBy : Call → Lengths → History → Answer
+answeredBy (load t f) n H = loaded (refusedBy (load t f) n H)
+answeredBy pass n empty = refusing pass nothing
+answeredBy pass n (holds e) = passed (restIf (book.passed e .settled))
+answeredBy run n empty = refusing run nothing
+answeredBy run n (holds e) = passed (restIf (ran e .settled))
+answeredBy view n empty = refusing view nothing
+answeredBy view n (holds e) = shown (e .last) Accepted
+answeredBy figures n empty = refusing figures nothing
+answeredBy figures n (holds e) = figured (figuresBy e)
+answeredBy (collect out) n empty = refusing (collect out) nothing
+answeredBy (collect out) n (holds e) =
+    let v = refusedBy (collect out) n (holds e) in
+    collected (writtenOf v (fileOf e)) (outputOf v (fileOf e) out)

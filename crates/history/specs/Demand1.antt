@@ -1,0 +1,99 @@
+-- Demand 1, over every record (made by whomever), two areas and call: what is refused, and what a refusal and a call leave as it was.
+--     afterPasses k s    record and areas after k passes called singly
+--     Goes k s           the first k passes answer "changed"
+--     RunEnds s          a run is passes called singly, up to the first that does not answer "changed"
+--     Stopped c s        14's pass clause, for a pass, and for a pass that a run comes to
+--     Cause c s n        01's condition for the refusal n because of the state
+--     reach c s          how many bytes of an area a call may write
+--     Areas c s          what a call leaves of the areas
+--     Demand1            the claim
+-- Assumes nothing.
+use mathlib.Core.Bool.{true, false, _||_}
+use mathlib.Core.List.{List, [], _∷_}
+use mathlib.Core.Logic.{_≢_}
+use mathlib.Core.Path.{_≡_}
+use Prim.Native.Nat.{ℕ, zero, suc, _*_, _≤_, _<_}
+use lib.Dec.{ltb}
+use lib.ListN.{length, drop}
+use Rattle.history.specs.declared.Passed.the-variants.{Changed}
+use Rattle.history.specs.Call.{Call, load, pass, run, view, figures, collect, isLoad, isRun, isCollect, answerOf, stateOf, refusalOf, refusing}
+use Rattle.history.specs.Collect.{collected}
+use Rattle.history.specs.Lists.{lengthsOf}
+use Rattle.history.specs.Load.{areasRule}
+use Rattle.history.specs.Pass.{passOf}
+use Rattle.history.specs.Run.{runOf}
+use Rattle.history.specs.Sound.{Unsound, Overruns}
+use Rattle.history.specs.State.{State, pixels}
+use Rattle.image.specs.File.{fileVerdict}
+use Rattle.image.specs.Header.{widthOf, heightOf}
+use Rattle.table.specs.declared.Table.{Table}
+use Rattle.table.specs.Record.{recordVerdict}
+use Rattle.verdict.specs.declared.Refusal.{Refusal}
+use Rattle.verdict.specs.declared.Verdict.the-variants.{Refused}
+use Rattle.verdict.specs.Rules.{refusal, refuseIf, judge}
+
+abbrev pub afterPasses : ℕ → State → State
+afterPasses zero s = s
+afterPasses (suc k) s = afterPasses k (passOf s .state)
+
+abbrev pub Goes : ℕ → State → Type 0
+Goes k s = (i : ℕ) → i < k → passOf (afterPasses i s) .answer ≡ Changed
+
+pub record RunEnds (s : State) : Type 0 where
+  -- the finished passes: at most as many as there are pixels
+  pub finished : ℕ
+  pub few : finished ≤ pixels (s .job)
+  pub goes : Goes finished s
+  -- answer, record and areas are those of the next pass, which rests or is refused
+  pub last : runOf s ≡ passOf (afterPasses finished s)
+  pub ends : runOf s .answer ≢ Changed
+
+abbrev pub Stopped : Call → State → Type 0
+Stopped (load t f) s = ⊥
+Stopped pass s = Overruns s
+Stopped run s = (k : ℕ) × Goes k s × Overruns (afterPasses k s)
+Stopped view s = ⊥
+Stopped figures s = ⊥
+Stopped (collect out) s = ⊥
+
+pub data Cause (c : Call) (s : State) : ℕ → Type 0 where
+  unsound : Unsound s → Cause c s 14
+  stopped : Stopped c s → Cause c s 14
+  -- the last sheet is not yet collected
+  not-collected : (Unsound s → ⊥) → isLoad c ≡ true → s .job .stage ≢ 0 → Cause c s 15
+  nothing-loaded : (Unsound s → ⊥) → isLoad c ≡ false → s .job .stage ≡ 0 → Cause c s 16
+  not-at-rest : (Unsound s → ⊥) → isCollect c ≡ true → s .job .stage ≡ 1 → Cause c s 17
+
+abbrev pub reach : Call → State → ℕ
+reach (load t f) s = widthOf f * heightOf f
+reach pass s = pixels (s .job)
+reach run s = pixels (s .job)
+reach view s = 0
+reach figures s = 0
+reach (collect out) s = 0
+
+pub record Areas (c : Call) (s : State) : Type 0 where
+  pub lengths : lengthsOf (stateOf c s) ≡ lengthsOf s
+  -- bytes past the image never change; view, figures and collect change none
+  pub first-past : drop (reach c s) (stateOf c s .first) ≡ drop (reach c s) (s .first)
+  pub second-past : drop (reach c s) (stateOf c s .second) ≡ drop (reach c s) (s .second)
+  -- load fills the first area only
+  pub second-stays : isLoad c ≡ true → stateOf c s .second ≡ s .second
+
+pub record Demand1 : Type 0 where
+  -- in a refused answer all else is zero, and the output is as it was
+  pub zeroed : (c : Call) (s : State) (r : Refusal) → refusalOf (answerOf c s) ≡ Refused r → answerOf c s ≡ refusing c r
+  -- a refused call alters neither record nor areas; a run keeps its finished passes
+  pub unaltered : (c : Call) (s : State) (r : Refusal) → isRun c ≡ false → refusalOf (answerOf c s) ≡ Refused r → stateOf c s ≡ s
+  pub run-ends : (s : State) → RunEnds s
+  -- 14 to 17 are given under their conditions and under no other, at place 0
+  pub given : (c : Call) (s : State) (n : ℕ) → Cause c s n → refusalOf (answerOf c s) ≡ Refused (refusal n 0)
+  pub only : (c : Call) (s : State) (r : Refusal) → refusalOf (answerOf c s) ≡ Refused r → 14 ≤ r .number
+      → Cause c s (r .number) × (r .place ≡ 0)
+  -- pass, run, view and figures are refused for no other reason; load by its table and its file, then 13; collect by 13
+  pub by-state : (c : Call) (s : State) (r : Refusal) → isLoad c ≡ false → isCollect c ≡ false → refusalOf (answerOf c s) ≡ Refused r → 14 ≤ r .number
+  pub by-input : (t : Table) (f : List ℕ) (s : State) → (Unsound s → ⊥) → s .job .stage ≡ 0
+      → refusalOf (answerOf (load t f) s) ≡ judge (recordVerdict t ∷ fileVerdict f ∷ areasRule f (length (s .first)) (length (s .second)) ∷ [])
+  pub by-output : (out : List ℕ) (s : State) → (Unsound s → ⊥) → s .job .stage ≡ 2
+      → refusalOf (answerOf (collect out) s) ≡ refuseIf (ltb (length out) (length (collected s))) 13 0
+  pub areas : (c : Call) (s : State) → Areas c s
