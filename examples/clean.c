@@ -1,6 +1,7 @@
 /* Cleans one image through the library: clean TABLE SHEET OUT
    Prints width, height, passes, added, removed; the figures go to standard error. A refusal prints `refused`, its number
-   and place, and leaves OUT as it is. Exit status: 0 done, 1 refused, 2 wrong use or trouble with a file. */
+   and place, and leaves OUT as it is. Exit status: 0 done, 1 refused, 2 wrong use or trouble with a file. OUT is written
+   in place: trouble in the middle of it leaves a part (bin/clean has more care). */
 #include <stdbool.h>
 #include <stdio.h>
 
@@ -76,22 +77,31 @@ static int clean(mask_table table, size_t image_length, const char *path) {
     return DONE;
 }
 
-int main(int argc, char **argv) {
+static int clean_files(const char *table, const char *sheet, const char *path) {
     size_t table_length = 0;
     size_t image_length = 0;
-    if (argc != 4) {
-        fprintf(stderr, "usage: clean TABLE SHEET OUT\n");
+    if (!read_file(table, table_file, sizeof table_file, &table_length)) {
         return TROUBLE;
     }
-    if (!read_file(argv[1], table_file, sizeof table_file, &table_length)) {
-        return TROUBLE;
-    }
-    if (!read_file(argv[2], image_file, sizeof image_file, &image_length)) {
+    if (!read_file(sheet, image_file, sizeof image_file, &image_length)) {
         return TROUBLE;
     }
     mask_table_answer read = mask_table_read(table_file, table_length);
     if (read.number != MASK_ACCEPTED) {
         return refused(read.number, read.place);
     }
-    return clean(read.table, image_length, argv[3]);
+    return clean(read.table, image_length, path);
+}
+
+int main(int argc, char **argv) {
+    if (argc != 4) {
+        fprintf(stderr, "usage: clean TABLE SHEET OUT\n");
+        return TROUBLE;
+    }
+    int status = clean_files(argv[1], argv[2], argv[3]);
+    if (fflush(stdout) != 0 || ferror(stdout) != 0) { /* the line is not out */
+        perror("standard output");
+        return TROUBLE;
+    }
+    return status;
 }

@@ -17,7 +17,11 @@ const AREA: usize = 65536;
 
 fn main() {
     let mut file = [0u8; TABLE_ROOM];
-    let length = files::read(b"table.mtb", &mut file);
+    let input = files::read(b"table.mtb", &mut file);
+    if input.failed {
+        return;
+    }
+    let length = input.length;
     let read = table::read(&file[..length]);
     let verdict = read.verdict;
     match verdict {
@@ -32,7 +36,11 @@ fn area() -> [u8; AREA] {
 
 fn clean(table: Table) {
     let mut sheet = [0u8; SHEET_ROOM];
-    let length = files::read(b"sheet.pbm", &mut sheet);
+    let input = files::read(b"sheet.pbm", &mut sheet);
+    if input.failed {
+        return;
+    }
+    let length = input.length;
     let mut first = area();
     let mut second = area();
     let loaded = job::load_core(job::empty(), table, &sheet[..length], &mut first, &second);
@@ -61,7 +69,7 @@ fn collect<'a>(stable: Job, first: &'a [u8], second: &'a [u8]) {
         Written::Refused(refusal) => say::refused(refusal),
         Written::Length(length) => {
             if length <= SHEET_ROOM {
-                if files::replace(b"clean.pbm", b"clean.pbm.part", &out[..length]) {
+                if files::replace(&out[..length]) {
                     say::counts(stable);
                 }
             }

@@ -1,30 +1,61 @@
-// The program's one line.
+// The program's one line: built whole, then written.
+ghost use Prim.Native.Nat.{_≤_};
+ghost use lib.ListN.{length};
+ghost use Rattle.io.specs.Counts.{Counts};
 use history::Job;
 use libc::STDOUT_FILENO;
 use verdict::Refusal;
 
+// Five numbers of 20 digits, and what stands between them.
+const ROOM: usize = 105;
+
 pub(crate) fn refused(refusal: Refusal) {
-    io::write_all(STDOUT_FILENO, b"refused ");
-    field(refusal.number as usize);
-    last(refusal.place);
+    let mut line = [0u8; ROOM];
+    let end = put(&mut line, 0, b"refused ");
+    let end = number(&mut line, end, refusal.number as usize, b' ');
+    let end = number(&mut line, end, refusal.place, b'\n');
+    print(&line[..end]);
 }
 
 // Width, height, passes, added, removed.
 pub(crate) fn counts(job: Job) {
-    field(job.width);
-    field(job.height);
-    field(job.passes);
-    field(job.added);
-    last(job.removed);
+    let mut line = [0u8; ROOM];
+    let end = number(&mut line, 0, job.width, b' ');
+    let end = number(&mut line, end, job.height, b' ');
+    let end = number(&mut line, end, job.passes, b' ');
+    let end = number(&mut line, end, job.added, b' ');
+    let end = number(&mut line, end, job.removed, b'\n');
+    print(&line[..end]);
 }
 
-// A number and a space; a number and a line feed.
-fn field(n: usize) {
-    io::print_decimal(STDOUT_FILENO, n as u64);
-    io::write_all(STDOUT_FILENO, b" ");
+fn print(line: &[u8]) {
+    if !io::write_all(STDOUT_FILENO, line) {
+        os::fail(b"standard output");
+    }
 }
 
-fn last(n: usize) {
-    io::print_decimal(STDOUT_FILENO, n as u64);
-    io::write_all(STDOUT_FILENO, b"\n");
+// Puts the number and the byte after it at index `at`, and answers where they end.
+fn number(line: &mut [u8], at: usize, n: usize, after: u8) -> usize
+    requires { ⌜ at ≤ length (now line) ⌝ }
+    ensures { λ r. ⌜ Counts r (now (line .exit)) ⌝ }
+{
+    let mut digits = [0u8; 20];
+    let count = io::decimal(n as u64, &mut digits);
+    let end = put(line, at, &digits[..count]);
+    put(line, end, &[after])
+}
+
+// Puts as many of the bytes as fit.
+fn put(line: &mut [u8], at: usize, bytes: &[u8]) -> usize
+    requires { ⌜ at ≤ length (now line) ⌝ }
+    ensures { λ r. ⌜ Counts r (now (line .exit)) ⌝ }
+{
+    let mut end = at;
+    let mut i = 0;
+    while i < bytes.len() && end < line.len() {
+        line[end] = bytes[i];
+        end += 1;
+        i += 1;
+    }
+    end
 }

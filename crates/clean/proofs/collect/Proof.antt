@@ -1,8 +1,7 @@
 -- `clean::collect` is safe: the part that is written has as many bytes as the file.
 -- Assumes nothing.
-use mathlib.Core.Path.{sym}
 use borrow.Author.Needs.{needs}
-use lib.Seq.{length-take-le}
+use Rattle.io.proofs.Counting.{front}
 use Rattle.clean.proofs.collect.Statement.{statement}
 use Rattle.clean.proofs.collect.Tie as tie
 
@@ -21,17 +20,11 @@ refused-requires c κs = search needs
 enum-known-answer-2 : tie.Need-enum-known-answer-2
 enum-known-answer-2 c = search needs
 
-slice-aggregate-replace : tie.Need-slice-aggregate-replace
-slice-aggregate-replace c = search needs
-
-slice-aggregate-replace-2 : tie.Need-slice-aggregate-replace-2
-slice-aggregate-replace-2 c = search needs
-
 array-share-prefix-out : tie.Need-array-share-prefix-out
 array-share-prefix-out c = search needs
 
-slice-aggregate-replace-3 : tie.Need-slice-aggregate-replace-3
-slice-aggregate-replace-3 c = sym (length-take-le _ _ (array-share-prefix-out (c .before)))
+slice-aggregate-replace : tie.Need-slice-aggregate-replace
+slice-aggregate-replace c = front _ _ (array-share-prefix-out (c .before))
 
 replace-requires : tie.Need-replace-requires
 replace-requires c κs = search needs
@@ -60,10 +53,8 @@ collect-spec =
     enum-known-answer
     refused-requires
     enum-known-answer-2
-    slice-aggregate-replace
-    slice-aggregate-replace-2
     array-share-prefix-out
-    slice-aggregate-replace-3
+    slice-aggregate-replace
     replace-requires
     counts-requires
     returns
