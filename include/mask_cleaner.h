@@ -1,4 +1,4 @@
-/* The mask cleaner for C: tables, images and jobs. Link with libcapi.a (x86-64 Linux).
+/* The mask cleaner for C: tables, images and jobs. Link with libmask_cleaner.a (x86-64 Linux).
 
    A call either does its work or is refused. Every answer starts with `number` and `place`: number 0 means
    accepted; else number is one of the refusal numbers below, place says where, and all else in the answer is 0. A
@@ -21,6 +21,13 @@
 extern "C" {
 #endif
 
+/* ---- version */
+
+#define MASK_VERSION_MAJOR 0
+#define MASK_VERSION_MINOR 2
+#define MASK_VERSION_PATCH 0
+#define MASK_VERSION "0.2.0"
+
 /* ---- limits */
 
 #define MASK_MAX_ELEMENTS 64
@@ -33,7 +40,7 @@ extern "C" {
 
 #define MASK_ACCEPTED 0
 #define MASK_NUMBER_ENDS 1        /* table file: the bytes end within or before a number; which number */
-#define MASK_NUMBER_FORM 2        /* table file: a number of more than four groups, or with a last group of 0; which number */
+#define MASK_NUMBER_FORM 2        /* table file: a fourth group has bit 7 set (also at the end of the bytes), or the last of several groups is 0; which number */
 #define MASK_ELEMENT_COUNT 3      /* the count of elements is not 1 to 64 */
 #define MASK_ELEMENT_RANGE 4      /* an element is 0, above 33554431, with bit 12, or not above the one before, or, in a record, nonzero past the count; the lowest such */
 #define MASK_ELEMENTS_DISJOINT 5  /* an element shares no position with an earlier one; the lowest such */
@@ -163,8 +170,9 @@ mask_checked mask_load(mask_job *job, mask_table table, const uint8_t *file, siz
    that only these calls wrote. */
 mask_progress mask_pass(mask_job *job, uint8_t *first, size_t first_length, uint8_t *second, size_t second_length);
 
-/* Passes until one changes nothing; `stable` is then 1. Refused as mask_pass is. The exception: where a later pass is
-   refused by 14, the passes before it stay. */
+/* Passes until one changes nothing; `stable` is then 1. That takes at most width x height + 1 passes: every pass but the
+   last changes a pixel, and no pixel changes twice. Refused as mask_pass is. The exception: where a later pass is refused
+   by 14, the passes before it stay. */
 mask_progress mask_run(mask_job *job, uint8_t *first, size_t first_length, uint8_t *second, size_t second_length);
 
 /* Where the present image is: the first `length` bytes of the area with the number `area`. Nothing is written. Refused by
