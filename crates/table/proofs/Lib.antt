@@ -1,3 +1,4 @@
+pub mod Accepted
 pub mod Bytes
 pub mod Cursor
 pub mod Fewest
@@ -6,6 +7,7 @@ pub mod Files
 pub mod Front
 pub mod Groups
 pub mod Judging
+pub mod Masks
 pub mod Outputs
 pub mod Places
 pub mod Positions
