@@ -15,7 +15,7 @@ use Rattle.image.specs.Layout.{rasterStart}
 use Rattle.image.specs.Rows.{Sides, rasterOf}
 use Rattle.image.specs.RoundTrip.{imageOf, ReadBack, ImageRoundTrip}
 use Rattle.image.specs.Size.{rowBytes}
-use Rattle.image.proofs.Accepted.{FileGood, file-good, good-file, AcceptedFile, accepted-file}
+use Rattle.image.proofs.Facts.{FileGood, file-good, good-file, AcceptedFile, accepted-file}
 use Rattle.image.proofs.HeaderBack.{HeaderRead, header-back, header-kept}
 use Rattle.image.proofs.HeaderOf.{raster-place}
 use Rattle.image.proofs.PixelsOf.{PixelsGood, pixels-good, good-pixels}

@@ -1,6 +1,7 @@
-pub mod Accepted
 pub mod Bytes
+pub mod Cases
 pub mod Cursor
+pub mod Facts
 pub mod Fewest
 pub mod FileBack
 pub mod Files

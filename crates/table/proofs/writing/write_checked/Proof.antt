@@ -4,7 +4,7 @@ use mathlib.Core.Path.{ap, _∙_}
 use Prim.Native.Nat.{ℕ}
 use native.Mathlib.Omega.{arith}
 use borrow.Author.Needs.{needs}
-use Rattle.table.proofs.Accepted.{accepted-table}
+use Rattle.table.proofs.Facts.{accepted-table}
 use Rattle.table.proofs.Outputs.{short-output, whole-output}
 use Rattle.verdict.specs.declared.Written.the-variants.{Length}
 use Rattle.table.proofs.writing.write_checked.Statement.{statement}
