@@ -1,10 +1,11 @@
+pub mod Cases
 pub mod Digits
 pub mod NumberAt
 pub mod HeaderOf
 pub mod RowBytes
 pub mod Padding
 pub mod LayoutOf
-pub mod Accepted
+pub mod Facts
 pub mod ReadOf
 pub mod Unpacked
 pub mod Values

@@ -2,7 +2,6 @@
 --     rows-clean      the unused bits of an image's raster are 0
 --     rows-back       its pixels are the image's
 --     raster-kept     the raster of the pixels of a raster whose unused bits are 0 is that raster
---     pixels-small    a raster's pixels are 0 or 1
 -- Assumes nothing.
 use mathlib.Core.Bool.{false}
 use mathlib.Core.List.{List}
@@ -69,47 +68,42 @@ module _ (w h : ℕ) (wide : 1 ≤ w) (px : List ℕ) where
         pixel i l =
             ap (λ (k : ℕ). getD px k 0) (sym (div-add-mod' i w)) ∙ sym (bit-back (i / w) (i % w) (index-row i w h wide l) (mod-lt i wide))
 
-module _ (w h : ℕ) (wide : 1 ≤ w) (r : List ℕ) where
-  pub pixels-small : (i : ℕ) → i < w * h → getD (pixelsOf w h r) i 0 ≤ 1
+module _ (w h : ℕ) (wide : 1 ≤ w) (r : List ℕ) (clean : (row : ℕ) → row < h → paddingSet w r row ≡ false) where
+  -- below the width the value is the pixel, which is that bit of the byte
+  inside : (row j k : ℕ) → row < h → k < 8 → 8 * j + k < w → inRow w (pixelsOf w h r) row (8 * j + k) ≡ getD r (row * rowBytes w + j) 0 / 2 ^ (7 - k) % 2
   unfolding pixelsOf rasterPixel
-  pixels-small i l = omega (arith, getD-tab (grid w (rasterPixel w r)) (w * h) i 0 l)
+  inside row j k p l b =
+      let i : (8 * j + k) / 8 ≡ j = omega arith in
+      let m : (8 * j + k) % 8 ≡ k = omega arith in
+      rw (lt-ltb (8 * j + k) w b) (laid-at w h (rasterPixel w r) row (8 * j + k) p b ∙ rw (i, m))
 
-  module _ (clean : (row : ℕ) → row < h → paddingSet w r row ≡ false) where
-    -- below the width the value is the pixel, which is that bit of the byte
-    inside : (row j k : ℕ) → row < h → k < 8 → 8 * j + k < w → inRow w (pixelsOf w h r) row (8 * j + k) ≡ getD r (row * rowBytes w + j) 0 / 2 ^ (7 - k) % 2
-    unfolding pixelsOf rasterPixel
-    inside row j k p l b =
-        let i : (8 * j + k) / 8 ≡ j = omega arith in
-        let m : (8 * j + k) % 8 ≡ k = omega arith in
-        rw (lt-ltb (8 * j + k) w b) (laid-at w h (rasterPixel w r) row (8 * j + k) p b ∙ rw (i, m))
+  -- from the width on the value is 0, and the bit is an unused one of the row's last byte
+  outside : (row j k : ℕ) → row < h → j < rowBytes w → k < 8 → w ≤ 8 * j + k → 0 ≡ getD r (row * rowBytes w + j) 0 / 2 ^ (7 - k) % 2
+  unfolding paddingSet
+  outside row j k p q l b =
+      let fit = row-bytes-fit w in
+      let last : rowBytes w - 1 ≡ j = omega arith in
+      let low : getD r (row * rowBytes w + (rowBytes w - 1)) 0 % 2 ^ (8 * rowBytes w - w) ≡ 0 = eqb-true _ 0 (not-false _ (clean row p)) in
+      sym (low-zero (getD r (row * rowBytes w + j) 0) (8 * rowBytes w - w) (7 - k) (rw last at low) (omega arith))
 
-    -- from the width on the value is 0, and the bit is an unused one of the row's last byte
-    outside : (row j k : ℕ) → row < h → j < rowBytes w → k < 8 → w ≤ 8 * j + k → 0 ≡ getD r (row * rowBytes w + j) 0 / 2 ^ (7 - k) % 2
-    unfolding paddingSet
-    outside row j k p q l b =
-        let fit = row-bytes-fit w in
-        let last : rowBytes w - 1 ≡ j = omega arith in
-        let low : getD r (row * rowBytes w + (rowBytes w - 1)) 0 % 2 ^ (8 * rowBytes w - w) ≡ 0 = eqb-true _ 0 (not-false _ (clean row p)) in
-        sym (low-zero (getD r (row * rowBytes w + j) 0) (8 * rowBytes w - w) (7 - k) (rw last at low) (omega arith))
+  -- a value of the row's byte j is the bit of the raster's byte
+  value-kept : (row j k : ℕ) → row < h → j < rowBytes w → k < 8
+      → inRow w (pixelsOf w h r) row (8 * j + k) ≡ getD r (row * rowBytes w + j) 0 / 2 ^ (7 - k) % 2
+  value-kept row j k p q l =
+      ⊎-elim (λ e. inside row j k p l (ltb-true (8 * j + k) w e)) (λ e. rw e (outside row j k p q l (ltb-false (8 * j + k) w e))) (either (ltb (8 * j + k) w))
 
-    -- a value of the row's byte j is the bit of the raster's byte
-    value-kept : (row j k : ℕ) → row < h → j < rowBytes w → k < 8
-        → inRow w (pixelsOf w h r) row (8 * j + k) ≡ getD r (row * rowBytes w + j) 0 / 2 ^ (7 - k) % 2
-    value-kept row j k p q l =
-        ⊎-elim (λ e. inside row j k p l (ltb-true (8 * j + k) w e)) (λ e. rw e (outside row j k p q l (ltb-false (8 * j + k) w e))) (either (ltb (8 * j + k) w))
-
-    pub raster-kept : length r ≡ rowBytes w * h → ((i : ℕ) → getD r i 0 < 256) → rasterOf w h (pixelsOf w h r) ≡ r
-    unfolding rowByte
-    raster-kept count bytes = sym (tab-of (grid (rowBytes w) (rowByte w (pixelsOf w h r))) r (rowBytes w * h) 0 count byte)
-      where
-        byte : (i : ℕ) → i < rowBytes w * h → getD r i 0 ≡ grid (rowBytes w) (rowByte w (pixelsOf w h r)) i
-        byte i l =
-            let rb = rowBytes w in
-            let pos : 0 < rb = omega (arith, row-bytes-fit w) in
-            let row = index-row i rb h pos l in
-            let b = getD r (i / rb * rb + i % rb) 0 in
-            let bits : ℕ → ℕ = λ k. b / 2 ^ (7 - k) % 2 in
-            ap (λ (k : ℕ). getD r k 0) (sym (div-add-mod' i rb))
-            ∙ sym (bits-back b 8 (bytes (i / rb * rb + i % rb)))
-            ∙ packed-bits bits
-            ∙ sym (packed-ext (λ k. inRow w (pixelsOf w h r) (i / rb) (8 * (i % rb) + k)) bits (λ k m. value-kept (i / rb) (i % rb) k row (mod-lt i pos) m))
+  pub raster-kept : length r ≡ rowBytes w * h → ((i : ℕ) → getD r i 0 < 256) → rasterOf w h (pixelsOf w h r) ≡ r
+  unfolding rowByte
+  raster-kept count bytes = sym (tab-of (grid (rowBytes w) (rowByte w (pixelsOf w h r))) r (rowBytes w * h) 0 count byte)
+    where
+      byte : (i : ℕ) → i < rowBytes w * h → getD r i 0 ≡ grid (rowBytes w) (rowByte w (pixelsOf w h r)) i
+      byte i l =
+          let rb = rowBytes w in
+          let pos : 0 < rb = omega (arith, row-bytes-fit w) in
+          let row = index-row i rb h pos l in
+          let b = getD r (i / rb * rb + i % rb) 0 in
+          let bits : ℕ → ℕ = λ k. b / 2 ^ (7 - k) % 2 in
+          ap (λ (k : ℕ). getD r k 0) (sym (div-add-mod' i rb))
+          ∙ sym (bits-back b 8 (bytes (i / rb * rb + i % rb)))
+          ∙ packed-bits bits
+          ∙ sym (packed-ext (λ k. inRow w (pixelsOf w h r) (i / rb) (8 * (i % rb) + k)) bits (λ k m. value-kept (i / rb) (i % rb) k row (mod-lt i pos) m))

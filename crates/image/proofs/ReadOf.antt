@@ -15,7 +15,7 @@ use Rattle.image.specs.Header.{widthOf, heightOf}
 use Rattle.image.specs.Layout.{rasterStart, layoutIf, layoutOf}
 use Rattle.image.specs.Rows.{Sides}
 use Rattle.image.specs.Size.{rowBytes}
-use Rattle.image.proofs.Accepted.{file-good}
+use Rattle.image.proofs.Facts.{file-good}
 use Rattle.image.proofs.HeaderOf.{raster-part}
 use Rattle.image.proofs.LayoutOf.{start-within}
 use Rattle.image.proofs.RowBytes.{sides}

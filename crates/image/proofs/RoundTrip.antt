@@ -1,29 +1,30 @@
 -- Images there and back: the proof of specs/RoundTrip. Assumes nothing.
 use mathlib.Core.Bool.{true}
 use mathlib.Core.List.{List, [], _∷_, _++_}
-use mathlib.Core.Path.{_≡_, ap, _∙_}
+use mathlib.Core.Path.{_≡_, refl, ap, _∙_}
 use Prim.Native.Nat.{ℕ, zero, suc, _+_, _*_, _<_}
 use native.Mathlib.Omega.{arith}
-use borrow.Author.Tests.{ltb-true}
-use lib.Dec.{ltb}
+use borrow.Author.Tests.{leb-true, ltb-true}
+use lib.Dec.{leb, ltb}
 use lib.ListN.{getD}
 use lib.Pow.{areBytes}
 use lib.Seq.{getD-drop}
-use Rattle.image.specs.File.{rasterPixel, pixelsOf, paddingSet, imageBytes, rowByte}
+use Rattle.image.specs.File.{paddingSet, imageBytes, rowByte}
 use Rattle.image.specs.Header.{raster, widthOf, heightOf, header}
 use Rattle.image.specs.Layout.{rasterStart}
 use Rattle.image.specs.Rows.{Sides, rasterOf}
 use Rattle.image.specs.RoundTrip.{imageOf, ReadBack, ImageRoundTrip}
 use Rattle.image.specs.Size.{rowBytes}
-use Rattle.image.proofs.Accepted.{FileGood, file-good, good-file}
+use Rattle.image.proofs.Facts.{FileGood, file-good, good-file, AcceptedFile, accepted-file}
 use Rattle.image.proofs.HeaderBack.{HeaderRead, header-back, header-kept}
 use Rattle.image.proofs.HeaderOf.{raster-place}
 use Rattle.image.proofs.PixelsOf.{PixelsGood, pixels-good, good-pixels}
-use Rattle.image.proofs.RasterBack.{rows-clean, rows-back, raster-kept, pixels-small}
+use Rattle.image.proofs.RasterBack.{rows-clean, rows-back, raster-kept}
 use Rattle.image.proofs.RowBytes.{sides}
 use Rattle.image.proofs.WriteOf.{binary}
 use Rattle.seq.proofs.Grid.{grid}
 use Rattle.seq.proofs.Lists.{and-left, and-right}
+use Rattle.seq.proofs.Members.{all-getD}
 use Rattle.seq.proofs.Tab.{length-tab, first-none, first-nothing}
 
 -- bytes are below 256, and past them stands 0
@@ -60,28 +61,24 @@ module _ (w h : ℕ) (px : List ℕ) (g : PixelsGood w h px) where
     pixels = rw (read .rest, read .width, read .height) (rows-back w h (both .wide) px (binary g) (g .count));
   }
 
-module _ (f : List ℕ) (g : FileGood f) where
-  file-sides : Sides (widthOf f) (heightOf f)
-  file-sides = sides (widthOf f) (heightOf f) (g .size)
+kept : (f : List ℕ) → FileGood f → areBytes f ≡ true → imageBytes (widthOf f) (heightOf f) (imageOf f) ≡ f
+unfolding imageOf imageBytes
+kept f g e =
+    let wide = sides (widthOf f) (heightOf f) (g .size) .wide in
+    let clean = first-nothing (paddingSet (widthOf f) (raster f)) (heightOf f) (g .clean) in
+    let same = raster-kept (widthOf f) (heightOf f) wide (raster f) clean (g .count) (raster-below f e) in
+    ap (λ (r : List ℕ). header (widthOf f) (heightOf f) ++ r) same ∙ header-kept f (g .form)
 
-  kept : areBytes f ≡ true → imageBytes (widthOf f) (heightOf f) (imageOf f) ≡ f
-  unfolding imageOf imageBytes
-  kept e =
-      let clean = first-nothing (paddingSet (widthOf f) (raster f)) (heightOf f) (g .clean) in
-      let same = raster-kept (widthOf f) (heightOf f) (file-sides .wide) (raster f) clean (g .count) (raster-below f e) in
-      ap (λ (r : List ℕ). header (widthOf f) (heightOf f) ++ r) same ∙ header-kept f (g .form)
-
-  checked : PixelsGood (widthOf f) (heightOf f) (imageOf f)
-  unfolding imageOf pixelsOf
-  checked = record {
-    size = g .size;
-    count = length-tab (grid (widthOf f) (rasterPixel (widthOf f) (raster f))) (widthOf f * heightOf f);
-    small = pixels-small (widthOf f) (heightOf f) (file-sides .wide) (raster f);
-  }
+checked : (f : List ℕ) → AcceptedFile f → PixelsGood (widthOf f) (heightOf f) (imageOf f)
+checked f a = record {
+  size = a .sized;
+  count = a .counted;
+  small = λ i l. leb-true (getD (imageOf f) i 0) 1 (all-getD (λ v. leb v 1) (imageOf f) 0 (a .binary) refl i);
+}
 
 pub image-round-trip : ImageRoundTrip
 image-round-trip = record {
   image-back = λ w h px e. back w h px (pixels-good w h px e);
   file-back = λ f b e. kept f (file-good f e) b;
-  read-checked = λ f e. good-pixels _ _ _ (checked f (file-good f e));
+  read-checked = λ f e. good-pixels _ _ _ (checked f (accepted-file f e));
 }

@@ -1,9 +1,9 @@
 -- Image files (01: the reader 9 to 12 in order, then 13; the writer 10, 11, 12, then 13).
 --     pixelsOf w h r        the pixels of the raster r, in row order
 --     paddingSet w r row    an unused bit of a row's last byte is 1
---     fileVerdict f         accepted, or number and place
+--     fileRules f, fileVerdict f             the rules of a file in their order; accepted, or number and place
 --     imageVerdict f n, imageRead f n, imageArea f area    the reader on an area of n bytes: its answer, and the area afterwards
---     pixelVerdict w h px   the rules on pixel bytes: 10, 11, 12
+--     pixelRules w h px, pixelVerdict w h px     the rules on pixel bytes: 10, 11, 12; their verdict
 --     rowByte w px row j    byte j of a row of the file
 --     imageBytes w h px     the file of an image
 --     writeVerdict w h px n, imageWritten w h px n, imageOutput w h px out     the writer on n bytes of output
@@ -34,14 +34,16 @@ pixelsOf w h r = tab (λ i. rasterPixel w r (i / w) (i % w)) (w * h)
 unfoldable pub paddingSet : ℕ → List ℕ → ℕ → Bool
 paddingSet w r row = not (eqb (getD r (row * rowBytes w + (rowBytes w - 1)) 0 % 2 ^ (8 * rowBytes w - w)) 0)
 
-unfoldable pub fileVerdict : List ℕ → Verdict
-fileVerdict f =
-    judge
-    (refuseIf (not (headerForm f)) 9 0
+abbrev pub fileRules : List ℕ → List Verdict
+fileRules f =
+    refuseIf (not (headerForm f)) 9 0
     ∷ refuseIf (badSize (widthOf f) (heightOf f)) 10 0
     ∷ refuseIf (not (eqb (length (raster f)) (rowBytes (widthOf f) * heightOf f))) 11 0
     ∷ refuseAt (first (paddingSet (widthOf f) (raster f)) (heightOf f)) 12 (λ row. row)
-    ∷ [])
+    ∷ []
+
+unfoldable pub fileVerdict : List ℕ → Verdict
+fileVerdict f = judge (fileRules f)
 
 -- an area of n bytes is too short for the image
 abbrev pub areaRule : ℕ → ℕ → ℕ → Verdict
@@ -60,13 +62,15 @@ imageRead f n = readAs (imageVerdict f n) (widthOf f) (heightOf f)
 unfoldable pub imageArea : List ℕ → List ℕ → List ℕ
 imageArea f area = outputOf (imageVerdict f (length area)) (pixelsOf (widthOf f) (heightOf f) (raster f)) area
 
-unfoldable pub pixelVerdict : ℕ → ℕ → List ℕ → Verdict
-pixelVerdict w h px =
-    judge
-    (refuseIf (badSize w h) 10 0
+abbrev pub pixelRules : ℕ → ℕ → List ℕ → List Verdict
+pixelRules w h px =
+    refuseIf (badSize w h) 10 0
     ∷ refuseIf (not (eqb (length px) (w * h))) 11 0
     ∷ refuseAt (first (λ i. ltb 1 (getD px i 0)) (w * h)) 12 (λ i. i / w)
-    ∷ [])
+    ∷ []
+
+unfoldable pub pixelVerdict : ℕ → ℕ → List ℕ → Verdict
+pixelVerdict w h px = judge (pixelRules w h px)
 
 -- the pixel at a row and a column, 0 past the row's end
 abbrev pub inRow : ℕ → List ℕ → ℕ → ℕ → ℕ

@@ -2,6 +2,7 @@ pub mod Size
 pub mod Header
 pub mod File
 pub mod RoundTrip
+pub mod Cases
 pub mod Layout
 pub mod Rows
 pub mod Answers

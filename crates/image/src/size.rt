@@ -1,7 +1,7 @@
 // Sizes of images (01, The sheet): width and height are 1 to 256 each.
 ghost use mathlib.Core.Path.{_≡_};
 ghost use Prim.Native.Nat.{_≤_};
-ghost use Rattle.image.specs.Size.{within, badSize, rowBytes};
+ghost use Rattle.image.specs.Size.{maxSide, within, badSize, rowBytes};
 
 const MAX_SIDE: usize = 256;
 
@@ -10,16 +10,16 @@ pub(crate) const BYTE_PIXELS: usize = 8;
 pub fn is_bad(width: usize, height: usize) -> bool
     ensures { λ r. ⌜ r ≡ badSize width height ⌝ }
 {
-    if !is_within(MAX_SIDE, width) {
+    if !is_within(width) {
         return true;
     }
-    !is_within(MAX_SIDE, height)
+    !is_within(height)
 }
 
-fn is_within(limit: usize, n: usize) -> bool
-    ensures { λ r. ⌜ r ≡ within limit n ⌝ }
+fn is_within(n: usize) -> bool
+    ensures { λ r. ⌜ r ≡ within maxSide n ⌝ }
 {
-    1 <= n && n <= limit
+    1 <= n && n <= MAX_SIDE
 }
 
 // The bytes of a row in a file.

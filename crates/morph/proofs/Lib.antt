@@ -1,3 +1,4 @@
+pub mod Cases
 pub mod Operator
 pub mod SingleChange
 pub mod Bound

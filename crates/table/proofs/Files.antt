@@ -7,22 +7,20 @@
 --     table-eq, last-table    a record by its fields, and the record that is read
 -- Assumes nothing.
 use mathlib.Core.Bool.{Bool, true, false, not}
-use mathlib.Core.List.{List, [], _∷_, _++_, map}
+use mathlib.Core.List.{List, [], _∷_, _++_}
 use mathlib.Core.Path.{_≡_, sym, ap, ap₂, _∙_}
 use Prim.Native.Nat.{ℕ, suc, _+_, _-_, _≤_, _<_}
 use native.Mathlib.Omega.{arith}
 use borrow.Author.Tests.{eq-eqb, ne-eqb}
 use lib.Dec.{eqb}
 use lib.ListN.{length, drop, length-drop}
-use Rattle.seq.specs.Lists.{join}
-use Rattle.seq.specs.Tab.{upTo}
 use Rattle.table.specs.declared.Table.{Table}
 use Rattle.table.specs.declared.number.NumberRead.the-variants as read
 use Rattle.table.specs.Cursor.{numberAt}
-use Rattle.table.specs.File.{rest, number, tableOf, bytesLeft, elementRules, fileVerdict, readAs, readTable}
+use Rattle.table.specs.File.{rest, number, tableOf, bytesLeft, elementsRules, persistentRules, lastRules, fileVerdict, readAs, readTable}
 use Rattle.table.specs.Mask.{validMask}
 use Rattle.table.specs.Number.{size, value, numberRules}
-use Rattle.table.specs.Reading.{elementsRules, lastRules, CountRead, LastRead}
+use Rattle.table.specs.Reading.{behindRules, CountRead, LastRead}
 use Rattle.table.specs.Record.{badCount, badPersistent, countRule, persistentRule, meetRule, persistRule}
 use Rattle.table.specs.Search.{badNumber}
 use Rattle.table.proofs.Cursor.{rules-refused, rules-read}
@@ -37,19 +35,15 @@ four : (a : List Verdict) (u : Verdict) (b c d : List Verdict) → judge ((((a +
 four a u b c d = simp (judge-append, orElse-assoc)
 
 pub file-verdict : (f : List ℕ)
-    → fileVerdict f ≡ orElse (judge (numberRules 0 f)) (orElse (countRule (tableOf f)) (orElse (judge (elementsRules f)) (judge (lastRules f))))
-unfolding fileVerdict elementsRules lastRules
-file-verdict f =
-    four (numberRules 0 f) (countRule (tableOf f))
-    (join (map (elementRules f) (upTo (number f 0))))
-    (numberRules (number f 0 + 1) (rest f (number f 0 + 1)) ++ persistentRule (tableOf f) ∷ [])
-    (refuseIf (bytesLeft f) 8 (number f 0 + 2) ∷ meetRule (tableOf f) ∷ persistRule (tableOf f) ∷ [])
+    → fileVerdict f ≡ orElse (judge (numberRules 0 f)) (orElse (countRule (tableOf f)) (orElse (judge (elementsRules f)) (judge (behindRules f))))
+unfolding fileVerdict
+file-verdict f = four (numberRules 0 f) (countRule (tableOf f)) (elementsRules f) (persistentRules f) (lastRules f)
 
 pub read-by : (f : List ℕ) {v : Verdict} → fileVerdict f ≡ v → readAs v (tableOf f) ≡ readTable f
 unfolding readTable
 read-by f e = ap (λ (v : Verdict). readAs v (tableOf f)) (sym e)
 
-pub last-by : (f : List ℕ) {v : Verdict} → judge (lastRules f) ≡ v → readAs v (tableOf f) ≡ readAs (judge (lastRules f)) (tableOf f)
+pub last-by : (f : List ℕ) {v : Verdict} → judge (behindRules f) ≡ v → readAs v (tableOf f) ≡ readAs (judge (behindRules f)) (tableOf f)
 last-by f e = ap (λ (v : Verdict). readAs v (tableOf f)) (sym e)
 
 module _ (f : List ℕ) where
@@ -58,23 +52,22 @@ module _ (f : List ℕ) where
 
   module _ {count at : ℕ} (c : CountRead f count at) {b : Bool} (e : badNumber count ≡ b) where
     -- the count's own rules
-    counted : fileVerdict f ≡ orElse (refuseIf b 3 0) (orElse (judge (elementsRules f)) (judge (lastRules f)))
+    counted : fileVerdict f ≡ orElse (refuseIf b 3 0) (orElse (judge (elementsRules f)) (judge (behindRules f)))
     unfolding badCount badNumber tableOf
-    counted = file-verdict f ∙ ap₂ orElse (c .accepted) (ap (λ (t : Bool). orElse (refuseIf t 3 0) (orElse (judge (elementsRules f)) (judge (lastRules f)))) (ap badNumber (sym (c .counted)) ∙ e))
+    counted = file-verdict f ∙ ap₂ orElse (c .accepted) (ap (λ (t : Bool). orElse (refuseIf t 3 0) (orElse (judge (elementsRules f)) (judge (behindRules f)))) (ap badNumber (sym (c .counted)) ∙ e))
 
   pub file-count : {count at : ℕ} → CountRead f count at → badNumber count ≡ true → fileVerdict f ≡ Refused (refusal 3 0)
   file-count c b = counted c b
 
   pub file-elements : {count at : ℕ} {v : Verdict} → CountRead f count at → badNumber count ≡ false → judge (elementsRules f) ≡ v
-      → fileVerdict f ≡ orElse v (judge (lastRules f))
-  file-elements c b e = counted c b ∙ ap (λ (v : Verdict). orElse v (judge (lastRules f))) e
+      → fileVerdict f ≡ orElse v (judge (behindRules f))
+  file-elements c b e = counted c b ∙ ap (λ (v : Verdict). orElse v (judge (behindRules f))) e
 
 -- the rules on the persistent element's number, then its range rule, then the others
 pub last-rules : (f : List ℕ)
-    → judge (lastRules f)
+    → judge (behindRules f)
     ≡ orElse (judge (numberRules (number f 0 + 1) (rest f (number f 0 + 1))))
     (orElse (persistentRule (tableOf f)) (orElse (refuseIf (bytesLeft f) 8 (number f 0 + 2)) (orElse (meetRule (tableOf f)) (persistRule (tableOf f)))))
-unfolding lastRules
 last-rules f = simp (orElse-assoc, orElse-accepted)
 
 -- a record by its fields
@@ -87,12 +80,12 @@ table-eq t {count} {persistent} {elements} p q r =
     made c e k = record { count = c; elements = e; persistent = k }
 
 module _ {f : List ℕ} {count at : ℕ} {elements : List ℕ} (s : LastRead f count elements at) where
-  last-parts : judge (lastRules f)
+  last-parts : judge (behindRules f)
       ≡ orElse (judge (numberRules (number f 0 + 1) (drop at f)))
       (orElse (persistentRule (tableOf f)) (orElse (refuseIf (bytesLeft f) 8 (number f 0 + 2)) (orElse (meetRule (tableOf f)) (persistRule (tableOf f)))))
   last-parts = rw (s .reached) (last-rules f)
 
-  pub last-number : {i : ℕ} → numberAt f at ≡ read.Refused i → judge (lastRules f) ≡ Refused (refusal i (count + 1))
+  pub last-number : {i : ℕ} → numberAt f at ≡ read.Refused i → judge (behindRules f) ≡ Refused (refusal i (count + 1))
   last-number {i} q = last-parts ∙ simp (rules-refused f at (number f 0 + 1) q) (ap (λ (n : ℕ). Refused (refusal i (n + 1))) (sym (s .counted)))
 
   module _ {persistent past : ℕ} (q : numberAt f at ≡ read.Number persistent past) where
@@ -121,21 +114,21 @@ module _ {f : List ℕ} {count at : ℕ} {elements : List ℕ} (s : LastRead f c
         (ap (λ (t : List ℕ). eqb (length t) 0) behind ∙ ap (λ (n : ℕ). eqb n 0) (length-drop past f) ∙ e) (sym (s .counted))
 
     ranged : {b : Bool} → not (validMask persistent) ≡ b
-        → judge (lastRules f) ≡ orElse (refuseIf b 6 (count + 1)) (orElse (refuseIf (bytesLeft f) 8 (number f 0 + 2)) (orElse (meetRule (tableOf f)) (persistRule (tableOf f))))
+        → judge (behindRules f) ≡ orElse (refuseIf b 6 (count + 1)) (orElse (refuseIf (bytesLeft f) 8 (number f 0 + 2)) (orElse (meetRule (tableOf f)) (persistRule (tableOf f))))
     ranged e =
         last-parts
         ∙ ap₂ (λ (v w : Verdict). orElse v (orElse w (orElse (refuseIf (bytesLeft f) 8 (number f 0 + 2)) (orElse (meetRule (tableOf f)) (persistRule (tableOf f))))))
         (rules-read f at (number f 0 + 1) q .0) (persistent-rule e)
 
-    pub last-range : not (validMask persistent) ≡ true → judge (lastRules f) ≡ Refused (refusal 6 (count + 1))
+    pub last-range : not (validMask persistent) ≡ true → judge (behindRules f) ≡ Refused (refusal 6 (count + 1))
     last-range b = ranged b
 
     module _ (b : not (validMask persistent) ≡ false) where
-      left : {e : Bool} → eqb (length f - past) 0 ≡ e → judge (lastRules f) ≡ orElse (refuseIf (not e) 8 (count + 2)) (orElse (meetRule (tableOf f)) (persistRule (tableOf f)))
+      left : {e : Bool} → eqb (length f - past) 0 ≡ e → judge (behindRules f) ≡ orElse (refuseIf (not e) 8 (count + 2)) (orElse (meetRule (tableOf f)) (persistRule (tableOf f)))
       left e = ranged b ∙ ap (λ (v : Verdict). orElse v (orElse (meetRule (tableOf f)) (persistRule (tableOf f)))) (bytes-rule e)
 
-      pub last-bytes : past < length f → judge (lastRules f) ≡ Refused (refusal 8 (count + 2))
+      pub last-bytes : past < length f → judge (behindRules f) ≡ Refused (refusal 8 (count + 2))
       last-bytes h = left (ne-eqb (length f - past) 0 (λ z. omega arith))
 
-      pub last-relations : length f ≤ past → judge (lastRules f) ≡ orElse (meetRule (tableOf f)) (persistRule (tableOf f))
+      pub last-relations : length f ≤ past → judge (behindRules f) ≡ orElse (meetRule (tableOf f)) (persistRule (tableOf f))
       last-relations h = left (eq-eqb (length f - past) 0 (omega arith))

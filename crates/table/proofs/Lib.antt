@@ -1,11 +1,14 @@
 pub mod Bytes
+pub mod Cases
 pub mod Cursor
+pub mod Facts
 pub mod Fewest
 pub mod FileBack
 pub mod Files
 pub mod Front
 pub mod Groups
 pub mod Judging
+pub mod Masks
 pub mod Outputs
 pub mod Places
 pub mod Positions

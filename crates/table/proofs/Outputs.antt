@@ -1,5 +1,4 @@
 -- What the writer answers and leaves, by the record's verdict and the output's length.
---     accepted-count      a record that the check accepts has at most 64 elements
 --     refused-output, short-output, whole-output      a refused record, an output too short, and the file
 -- Assumes nothing.
 use mathlib.Core.Bool.{Bool}
@@ -11,17 +10,13 @@ use lib.Dec.{ltb}
 use lib.ListN.{length}
 use Rattle.table.specs.declared.Table.{Table}
 use Rattle.table.specs.File.{tableBytes, tableVerdict, writtenTable, tableOutput}
-use Rattle.table.specs.Record.{maxElements, recordVerdict}
-use Rattle.table.proofs.Verdicts.{count-le, record-sound}
+use Rattle.table.specs.Record.{recordVerdict}
 use Rattle.verdict.specs.declared.Refusal.{Refusal}
 use Rattle.verdict.specs.declared.Verdict.{Verdict}
 use Rattle.verdict.specs.declared.Verdict.the-variants.{Accepted, Refused}
 use Rattle.verdict.specs.declared.Written.the-variants as written
 use Rattle.verdict.specs.Rules.{refusal, refuseIf, orElse}
 use Rattle.verdict.specs.Writer.{over, writtenOf, outputOf}
-
-pub accepted-count : (t : Table) → recordVerdict t ≡ Accepted → t .count ≤ maxElements
-accepted-count t e = count-le (t .count) (record-sound t e .counted)
 
 module _ (t : Table) (out : List ℕ) where
   -- answer and memory by the verdict

@@ -19,7 +19,7 @@ use Rattle.seq.proofs.Tests.{lt-or-le}
 use Rattle.table.specs.declared.Table.{Table}
 use Rattle.table.specs.File.{rest, number, tableOf, bytesLeft, elementRules, fileVerdict, tableBytes}
 use Rattle.table.specs.Number.{size, value, numberRules, numberBytes}
-use Rattle.table.specs.Reading.{elementsRules, lastRules}
+use Rattle.table.specs.Reading.{behindRules}
 use Rattle.table.specs.Record.{maxElements, element, masks, badCount, badElement, badPlace, badPersistent, countRule, elementRule, persistentRule, meetRule, persistRule}
 use Rattle.table.specs.Search.{badNumber, lowestBad}
 use Rattle.table.proofs.Front.{Front, bytes-front, front-reads}
@@ -30,7 +30,7 @@ use Rattle.table.proofs.Positions.{mask-lt}
 use Rattle.table.proofs.Verdicts.{count-le, Sound}
 use Rattle.verdict.specs.declared.Verdict.the-variants.{Accepted}
 use Rattle.verdict.specs.Rules.{refuseIf, orElse, judge}
-use Rattle.verdict.proofs.Rules.{judge-append, orElse-accepted}
+use Rattle.verdict.proofs.Rules.{judge-last}
 
 -- the bytes from element i on
 abbrev after : Table → ℕ → List ℕ
@@ -98,10 +98,10 @@ module _ (t : Table) (whole : length (t .elements) ≡ maxElements) (s : Sound t
 
   element-accepted : (k : ℕ) → k < t .count → judge (elementRules (tableBytes t) k) ≡ Accepted
   element-accepted k h =
-      judge-append (numberRules (suc k) (rest (tableBytes t) (suc k))) (elementRule (tableOf (tableBytes t)) k ∷ [])
+      judge-last (numberRules (suc k) (rest (tableBytes t) (suc k))) (elementRule (tableOf (tableBytes t)) k)
       ∙ ap₂ orElse
       (ap (λ (l : List ℕ). judge (numberRules (suc k) l)) (rests k (le-of-lt h)) ∙ front-reads (front-element k h) .accepted (suc k))
-      (orElse-accepted (elementRule (tableOf (tableBytes t)) k) ∙ ap (λ (u : Table). elementRule u k) table-back ∙ ap (λ (b : Bool). refuseIf b 4 (suc k)) fine)
+      (ap (λ (u : Table). elementRule u k) table-back ∙ ap (λ (b : Bool). refuseIf b 4 (suc k)) fine)
     where
       fine : badElement t k ≡ false
       fine = sym (bad-within t k h) ∙ good k (lt-of-lt-of-le h few)
@@ -127,7 +127,7 @@ module _ (t : Table) (whole : length (t .elements) ≡ maxElements) (s : Sound t
       ∙ ap (λ (l : List ℕ). judge (numberRules (number (tableBytes t) 0 + 1) l)) rest-last
       ∙ front-reads front-last .accepted (number (tableBytes t) 0 + 1)
 
-  last-accepted : judge (lastRules (tableBytes t)) ≡ Accepted
+  last-accepted : judge (behindRules (tableBytes t)) ≡ Accepted
   unfolding badPersistent
   last-accepted =
       last-rules (tableBytes t)
@@ -137,7 +137,7 @@ module _ (t : Table) (whole : length (t .elements) ≡ maxElements) (s : Sound t
       (ap (λ (u : Table). orElse (meetRule u) (persistRule u)) table-back ∙ s .related)))
 
   pub file-accepted : fileVerdict (tableBytes t) ≡ Accepted
-  unfolding badCount badNumber elementsRules
+  unfolding badCount badNumber
   file-accepted =
       file-verdict (tableBytes t)
       ∙ ap₂ orElse (front-reads front-count .accepted 0)

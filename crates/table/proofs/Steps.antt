@@ -21,7 +21,7 @@ use Rattle.table.specs.declared.number.NumberRead.the-variants as read
 use Rattle.table.specs.Cursor.{numberAt}
 use Rattle.table.specs.File.{rest, number, tableOf, elementRules}
 use Rattle.table.specs.Number.{size, value, numberRules}
-use Rattle.table.specs.Reading.{elementsRules, ElementsRead}
+use Rattle.table.specs.Reading.{ElementsRead}
 use Rattle.table.specs.Record.{maxElements}
 use Rattle.table.specs.Search.{badAfter}
 use Rattle.table.proofs.Cursor.{rules-refused, rules-read}
@@ -51,7 +51,6 @@ stepped-none {f} e =
 module _ {f : List ℕ} {k next last : ℕ} {elements : List ℕ} (s : Stepped f k next last elements) (n : number f 0 ≤ maxElements) (h : k < number f 0) where
   -- the whole list of rules refuses where element k does
   refuses : {v : Verdict} (i at : ℕ) → v ≡ Refused (refusal i (k + 1)) → judge (elementRules f k) ≡ Refused (refusal i (suc k)) → ElementsRead f v elements at
-  unfolding elementsRules
   refuses i at e q =
       record {
         said = e ∙ ap (λ (p : ℕ). Refused (refusal i p)) (add-one k) ∙ sym (judge-at (elementRules f) (number f 0) k h (s .accepted) q);
@@ -88,7 +87,7 @@ module _ {f : List ℕ} {k next last : ℕ} {elements : List ℕ} (s : Stepped f
         }
 
 pub stepped-all : {f : List ℕ} {k next last : ℕ} {elements : List ℕ} → Stepped f k next last elements → number f 0 ≤ k → ElementsRead f Accepted elements next
-unfolding elementsRules tableOf
+unfolding tableOf
 stepped-all {f} {k} s h =
     record {
       said = sym (ap (below (elementRules f)) all ∙ s .accepted);

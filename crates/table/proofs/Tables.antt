@@ -5,7 +5,7 @@
 --     good-table                     a file whose elements are accepted makes a record without bad places
 -- Assumes nothing.
 use mathlib.Core.Bool.{Bool, false, cond, not}
-use mathlib.Core.List.{List, [], _∷_, List·Memᴰ·head, Memᴰ·append-right}
+use mathlib.Core.List.{List, List·Memᴰ·head, Memᴰ·append-right}
 use mathlib.Core.Logic.{_⊎_, inl, inr}
 use mathlib.Core.Option.{none}
 use mathlib.Core.Path.{_≡_, refl, ap, ap₂, _∙_}
@@ -17,16 +17,15 @@ use lib.Dec.{ltb}
 use Rattle.seq.proofs.Lists.{join-intro, map-intro}
 use Rattle.seq.proofs.Tab.{getD-tab, upTo-intro, first-none}
 use Rattle.seq.proofs.Tests.{lt-or-le}
-use Rattle.table.specs.File.{rest, number, tableOf, elementRules}
+use Rattle.table.specs.File.{rest, number, tableOf, elementRules, elementsRules}
 use Rattle.table.specs.Number.{numberRules}
-use Rattle.table.specs.Reading.{elementsRules}
 use Rattle.table.specs.Record.{maxElements, element, badElement, badPlace, elementRule}
 use Rattle.table.specs.Search.{badAfter, lowestBad}
 use Rattle.table.proofs.Places.{bad-first, bad-next, bad-within, bad-past}
 use Rattle.verdict.specs.declared.Verdict.{Verdict}
 use Rattle.verdict.specs.declared.Verdict.the-variants.{Accepted}
 use Rattle.verdict.specs.Rules.{refuseIf, orElse, judge}
-use Rattle.verdict.proofs.Rules.{judge-append, judge-accepted, refuseIf-accepted, orElse-accepted}
+use Rattle.verdict.proofs.Rules.{judge-last, judge-accepted, refuseIf-accepted}
 
 module _ (f : List ℕ) (k : ℕ) (l : k < maxElements) where
   pub table-element : k < number f 0 → element (tableOf f) k ≡ number f (suc k)
@@ -57,11 +56,11 @@ pub element-judged : (f : List ℕ) (k : ℕ) {v : Verdict} {b : Bool} → numbe
     → judge (numberRules (suc k) (rest f (suc k))) ≡ v → badAfter (before f k) (number f (suc k)) ≡ b
     → judge (elementRules f k) ≡ orElse v (refuseIf b 4 (suc k))
 element-judged f k n h e q =
-    judge-append (numberRules (suc k) (rest f (suc k))) (elementRule (tableOf f) k ∷ [])
-    ∙ ap₂ orElse e (orElse-accepted (elementRule (tableOf f) k) ∙ ap (λ (t : Bool). refuseIf t 4 (suc k)) (bad-number f k n h ∙ q))
+    judge-last (numberRules (suc k) (rest f (suc k))) (elementRule (tableOf f) k)
+    ∙ ap₂ orElse e (ap (λ (t : Bool). refuseIf t 4 (suc k)) (bad-number f k n h ∙ q))
 
 pub good-table : (f : List ℕ) → judge (elementsRules f) ≡ Accepted → lowestBad (tableOf f) ≡ none
-unfolding lowestBad elementsRules tableOf
+unfolding lowestBad tableOf
 good-table f e = first-none (badPlace (tableOf f)) maxElements good
   where
     within : (k : ℕ) → k < number f 0 → badElement (tableOf f) k ≡ false

@@ -2,13 +2,16 @@
 --     search-lt, search-refuses, search-accepts      what a search found is below its bound; its rule refuses there; or accepts
 --     record-count, record-place, record-persistent, record-relations    the first rule that fails speaks
 --     Sound t, record-sound, sound-record    what an accepted record has passed, both ways
+--     record-numbers      the numbers that a record is refused by
 -- Assumes nothing.
 use mathlib.Core.Bool.{Bool, true, false, not}
+use mathlib.Core.List.{[], _∷_}
 use mathlib.Core.Option.{Option, none, some}
-use mathlib.Core.Path.{_≡_, sym, ap, _∙_}
+use mathlib.Core.Path.{_≡_, refl, sym, ap, _∙_}
 use Prim.Native.Nat.{ℕ, suc, _+_, _≤_, _<_}
 use native.Mathlib.Numerals.{add-one}
 use borrow.Author.Tests.{not-false}
+use Rattle.seq.specs.Lists.{isSome}
 use Rattle.seq.specs.Tab.{first}
 use Rattle.seq.proofs.Tab.{first-found}
 use Rattle.seq.proofs.Tests.{between}
@@ -16,11 +19,13 @@ use Rattle.table.specs.declared.Table.{Table}
 use Rattle.table.specs.declared.mask.Search.{Search}
 use Rattle.table.specs.declared.mask.Search.the-variants.{Found, Nothing}
 use Rattle.table.specs.Mask.{validMask}
-use Rattle.table.specs.Record.{maxElements, badCount, badPersistent, countRule, persistentRule, meetRule, persistRule, recordVerdict}
+use Rattle.table.specs.Record.{maxElements, badCount, badPlace, badPersistent, disjointFrom, missing, countRule, placesRule, persistentRule, meetRule, persistRule, recordVerdict}
 use Rattle.table.specs.Search.{found, badNumber, lowestBad}
 use Rattle.table.proofs.Judging.{four-accepted}
 use Rattle.verdict.specs.declared.Verdict.the-variants.{Accepted, Refused}
+use Rattle.verdict.specs.Numbers.{OneOf, accepts}
 use Rattle.verdict.specs.Rules.{refusal, refuseAt, orElse}
+use Rattle.verdict.proofs.Numbers.{one-of-if, one-of-at, one-of-or}
 use Rattle.verdict.proofs.Rules.{refuseIf-accepted, refuseAt-accepted, orElse-accepted}
 
 pub search-lt : (p : ℕ → Bool) (n : ℕ) {s : Search} {k : ℕ} → found s ≡ first p n → s ≡ Found k → k < n
@@ -66,7 +71,7 @@ pub record Sound (t : Table) : Type 0 where
 pub record-sound : (t : Table) → recordVerdict t ≡ Accepted → Sound t
 unfolding recordVerdict badCount badNumber lowestBad badPersistent
 record-sound t q =
-    let w = four-accepted (countRule t) (refuseAt (lowestBad t) 4 suc) (persistentRule t) (orElse (meetRule t) (orElse (persistRule t) Accepted)) q in
+    let w = four-accepted (countRule t) (placesRule t) (persistentRule t) (orElse (meetRule t) (orElse (persistRule t) Accepted)) q in
     record {
       counted = refuseIf-accepted (badNumber (t .count)) 3 0 (w .0);
       placed = refuseAt-accepted (lowestBad t) 4 suc (w .1);
@@ -76,3 +81,12 @@ record-sound t q =
 
 pub sound-record : (t : Table) → Sound t → recordVerdict t ≡ Accepted
 sound-record t s = record-relations t (s .counted) (s .placed) (s .valid) ∙ s .related
+
+pub record-numbers : (t : Table) → OneOf (3 ∷ 4 ∷ 6 ∷ 5 ∷ 7 ∷ []) (recordVerdict t)
+unfolding recordVerdict
+record-numbers t =
+    one-of-or (one-of-if (badCount t) 3 0 refl)
+    (one-of-or (one-of-at (first (badPlace t) maxElements) 4 suc refl)
+    (one-of-or (one-of-if (badPersistent t) 6 (t .count + 1) refl)
+    (one-of-or (one-of-at (first (λ k. isSome (disjointFrom t k)) (t .count)) 5 suc refl)
+    (one-of-or (one-of-at (first (missing t) (t .count)) 7 suc refl) accepts))))

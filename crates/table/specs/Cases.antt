@@ -1,18 +1,14 @@
 -- Small cases that fix what 01's rules say where a definition could be read another way.
---     records, files       with the verdict expected of each
---     cases-met            one theorem, computed
+--     records, files     with the verdict expected of each
+--     Cases              the definitions give what is expected
 -- Assumes nothing.
 use mathlib.Core.List.{List, [], _∷_, _++_, map}
-use mathlib.Core.Path.{_≡_, refl}
+use mathlib.Core.Path.{_≡_}
 use Prim.Native.Nat.{ℕ, _-_}
 use lib.ListN.{length, replicate}
-use Rattle.seq.specs.Bits.{bit, bitsOf}
-use Rattle.seq.specs.Tab.{upTo}
 use Rattle.table.specs.declared.Table.{Table}
-use Rattle.table.specs.File.{tableOf, bytesLeft, fileVerdict}
-use Rattle.table.specs.Mask.{positions, validMask, meets, sumInside, sum, partner, unpartnered, persistentFor}
-use Rattle.table.specs.Number.{more, size, value, ends, tooLong, notFewest}
-use Rattle.table.specs.Record.{maxElements, persistents, badCount, notRising, badElement, badPlace, badPersistent, disjointFrom, missing, recordVerdict}
+use Rattle.table.specs.File.{fileVerdict}
+use Rattle.table.specs.Record.{maxElements, recordVerdict}
 use Rattle.verdict.specs.declared.Verdict.{Verdict}
 use Rattle.verdict.specs.declared.Verdict.the-variants.{Accepted, Refused}
 use Rattle.verdict.specs.Rules.{refusal}
@@ -21,53 +17,46 @@ use Rattle.verdict.specs.Rules.{refusal}
 abbrev of : List ℕ → ℕ → Table
 of es K = record { count = length es; elements = es ++ replicate (maxElements - length es) 0; persistent = K }
 
-abbrev records : List Table
+abbrev refused : ℕ → ℕ → Verdict
+refused n p = Refused (refusal n p)
+
+abbrev pub records : List (Table × Verdict)
 records =
     -- the four neighbours, two side by side
-    of (141440 ∷ []) 12288
+    (of (141440 ∷ []) 12288, Accepted)
     -- elements rise strictly
-    ∷ of (141440 ∷ 141440 ∷ []) 12288
+    ∷ (of (141440 ∷ 141440 ∷ []) 12288, refused 4 2)
     -- a bad element speaks before a bad persistent element, and that before disjoint elements
-    ∷ of (4096 ∷ []) 0
-    ∷ of (2048 ∷ 8192 ∷ []) 0
+    ∷ (of (4096 ∷ []) 0, refused 4 1)
+    ∷ (of (2048 ∷ 8192 ∷ []) 0, refused 6 3)
     -- disjoint elements speak before a persistent element that is none
-    ∷ of (2048 ∷ 8192 ∷ []) 4096
+    ∷ (of (2048 ∷ 8192 ∷ []) 4096, refused 5 2)
     -- a single point is not persistent
-    ∷ of (469440 ∷ []) 4096
+    ∷ (of (469440 ∷ []) 4096, refused 7 1)
+    -- left and right: two side by side are persistent; two in a column are not, nor the end of a row with the start of the next
+    ∷ (of (10240 ∷ []) 12288, Accepted)
+    ∷ (of (10240 ∷ []) 135168, refused 7 1)
+    ∷ (of (10240 ∷ []) 49152, refused 7 1)
     -- a place past the count is zero
-    ∷ record { count = 1; elements = 141440 ∷ 0 ∷ 0 ∷ 9 ∷ replicate 60 0; persistent = 12288 }
+    ∷ (record { count = 1; elements = 141440 ∷ 0 ∷ 0 ∷ 9 ∷ replicate 60 0; persistent = 12288 }, refused 4 4)
     ∷ []
 
-abbrev files : List (List ℕ)
+abbrev pub files : List (List ℕ × Verdict)
 files =
     -- a fourth group with bit 7 set, at the end of the bytes too; three groups are an end within the number
-    (0x80 ∷ 0x80 ∷ 0x80 ∷ 0x80 ∷ [])
-    ∷ (0x80 ∷ 0x80 ∷ 0x80 ∷ [])
-    ∷ (0x80 ∷ 0x80 ∷ 0x80 ∷ 0x00 ∷ [])
+    (0x80 ∷ 0x80 ∷ 0x80 ∷ 0x80 ∷ [], refused 2 0)
+    ∷ (0x80 ∷ 0x80 ∷ 0x80 ∷ 0x80 ∷ 0x01 ∷ [], refused 2 0)
+    ∷ (0x80 ∷ 0x80 ∷ 0x80 ∷ [], refused 1 0)
+    ∷ (0x80 ∷ 0x80 ∷ 0x80 ∷ 0x00 ∷ [], refused 2 0)
+    -- a persistent element out of range speaks before bytes after it
+    ∷ (0x01 ∷ 0xC0 ∷ 0xD3 ∷ 0x1C ∷ 0x00 ∷ 0x00 ∷ [], refused 6 2)
     -- bytes after the last number speak before disjoint elements
-    ∷ (0x02 ∷ 0x80 ∷ 0x10 ∷ 0x80 ∷ 0x40 ∷ 0x80 ∷ 0x60 ∷ 0x00 ∷ [])
-    ∷ (0x02 ∷ 0x80 ∷ 0x10 ∷ 0x80 ∷ 0x40 ∷ 0x80 ∷ 0x60 ∷ [])
+    ∷ (0x02 ∷ 0x80 ∷ 0x10 ∷ 0x80 ∷ 0x40 ∷ 0x80 ∷ 0x60 ∷ 0x00 ∷ [], refused 8 4)
+    ∷ (0x02 ∷ 0x80 ∷ 0x10 ∷ 0x80 ∷ 0x40 ∷ 0x80 ∷ 0x60 ∷ [], refused 5 2)
     -- a range speaks before the next number's end
-    ∷ (0x02 ∷ 0x00 ∷ [])
+    ∷ (0x02 ∷ 0x00 ∷ [], refused 4 1)
     ∷ []
 
-abbrev expected : List Verdict
-expected =
-    Accepted
-    ∷ Refused (refusal 4 2)
-    ∷ Refused (refusal 4 1)
-    ∷ Refused (refusal 6 3)
-    ∷ Refused (refusal 5 2)
-    ∷ Refused (refusal 7 1)
-    ∷ Refused (refusal 4 4)
-    ∷ Refused (refusal 2 0)
-    ∷ Refused (refusal 1 0)
-    ∷ Refused (refusal 2 0)
-    ∷ Refused (refusal 8 4)
-    ∷ Refused (refusal 5 2)
-    ∷ Refused (refusal 4 1)
-    ∷ []
-
-pub cases-met : map recordVerdict records ++ map fileVerdict files ≡ expected
-unfolding recordVerdict fileVerdict badPlace badCount notRising badElement badPersistent disjointFrom missing persistents persistentFor unpartnered partner sum sumInside positions validMask meets tableOf bytesLeft more size value ends tooLong notFewest bit bitsOf upTo
-cases-met = refl
+pub record Cases : Type 0 where
+  pub records-met : map (λ c. recordVerdict (c .0)) records ≡ map (λ c. c .1) records
+  pub files-met : map (λ c. fileVerdict (c .0)) files ≡ map (λ c. c .1) files

@@ -2,6 +2,8 @@
 --     rest f i          the bytes of f from its number i on
 --     number f i        number i: 0 the count, then the elements, then the persistent element
 --     tableOf f         the record that the file's numbers make
+--     countRules f, elementsRules f, persistentRules f, lastRules f    the rules on the count, the elements, the persistent element; 8, 5, 7
+--     fileRules f       all of them, in their order
 --     fileVerdict f     accepted, or number and place
 --     readTable f       the reader's answer: a zero record where it is refused
 --     tableBytes t      the file of a record
@@ -43,20 +45,31 @@ tableOf f =
 unfoldable pub bytesLeft : List ℕ → Bool
 bytesLeft f = not (eqb (length (rest f (number f 0 + 2))) 0)
 
--- the rules of element k of a file
+abbrev pub countRules : List ℕ → List Verdict
+countRules f = numberRules 0 f ++ countRule (tableOf f) ∷ []
+
+-- of element k
 abbrev pub elementRules : List ℕ → ℕ → List Verdict
 elementRules f k = numberRules (suc k) (rest f (suc k)) ++ elementRule (tableOf f) k ∷ []
 
-unfoldable pub fileVerdict : List ℕ → Verdict
-fileVerdict f =
-    judge
-    ((numberRules 0 f ++ countRule (tableOf f) ∷ [])
-    ++ join (map (elementRules f) (upTo (number f 0)))
-    ++ (numberRules (number f 0 + 1) (rest f (number f 0 + 1)) ++ persistentRule (tableOf f) ∷ [])
-    ++ refuseIf (bytesLeft f) 8 (number f 0 + 2)
+abbrev pub elementsRules : List ℕ → List Verdict
+elementsRules f = join (map (elementRules f) (upTo (number f 0)))
+
+abbrev pub persistentRules : List ℕ → List Verdict
+persistentRules f = numberRules (number f 0 + 1) (rest f (number f 0 + 1)) ++ persistentRule (tableOf f) ∷ []
+
+abbrev pub lastRules : List ℕ → List Verdict
+lastRules f =
+    refuseIf (bytesLeft f) 8 (number f 0 + 2)
     ∷ meetRule (tableOf f)
     ∷ persistRule (tableOf f)
-    ∷ [])
+    ∷ []
+
+abbrev pub fileRules : List ℕ → List Verdict
+fileRules f = countRules f ++ elementsRules f ++ persistentRules f ++ lastRules f
+
+unfoldable pub fileVerdict : List ℕ → Verdict
+fileVerdict f = judge (fileRules f)
 
 -- the record read, or the zero record
 abbrev pub readAs : Verdict → Table → TableRead

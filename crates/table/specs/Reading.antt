@@ -1,34 +1,24 @@
 -- What the private functions of the file reader take over from one another.
---     elementsRules f, lastRules f     the rules on a file's elements, and those behind them
+--     behindRules f                    the rules behind a file's elements
 --     CountRead f count at             the count is read, and the position past it
 --     ElementsRead f v elements at     the verdict on the elements; where it accepts, they are stored, and the position is past them
 --     LastRead f count elements at     the same, with what the rules passed so far say of the record
 -- Assumes nothing.
-use mathlib.Core.List.{List, [], _∷_, _++_, map}
+use mathlib.Core.List.{List, _++_}
 use mathlib.Core.Option.{none}
 use mathlib.Core.Path.{_≡_}
 use Prim.Native.Nat.{ℕ, _+_, _≤_}
 use lib.ListN.{drop}
-use Rattle.seq.specs.Lists.{join}
-use Rattle.seq.specs.Tab.{upTo}
-use Rattle.table.specs.File.{rest, number, tableOf, bytesLeft, elementRules}
+use Rattle.table.specs.File.{rest, number, tableOf, elementsRules, persistentRules, lastRules}
 use Rattle.table.specs.Number.{numberRules}
-use Rattle.table.specs.Record.{maxElements, persistentRule, meetRule, persistRule}
+use Rattle.table.specs.Record.{maxElements}
 use Rattle.table.specs.Search.{lowestBad}
 use Rattle.verdict.specs.declared.Verdict.{Verdict}
 use Rattle.verdict.specs.declared.Verdict.the-variants.{Accepted}
-use Rattle.verdict.specs.Rules.{refuseIf, judge}
+use Rattle.verdict.specs.Rules.{judge}
 
-unfoldable pub elementsRules : List ℕ → List Verdict
-elementsRules f = join (map (elementRules f) (upTo (number f 0)))
-
-unfoldable pub lastRules : List ℕ → List Verdict
-lastRules f =
-    (numberRules (number f 0 + 1) (rest f (number f 0 + 1)) ++ persistentRule (tableOf f) ∷ [])
-    ++ refuseIf (bytesLeft f) 8 (number f 0 + 2)
-    ∷ meetRule (tableOf f)
-    ∷ persistRule (tableOf f)
-    ∷ []
+abbrev pub behindRules : List ℕ → List Verdict
+behindRules f = persistentRules f ++ lastRules f
 
 pub record CountRead (f : List ℕ) (count at : ℕ) : Type 0 where
   pub counted : count ≡ number f 0

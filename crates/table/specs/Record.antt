@@ -4,6 +4,7 @@
 --     persistents t     the persistent elements (01: the keeper)
 --     disjointFrom t k  the lowest earlier element that shares no position with element k
 --     missing t k       some persistent element is not persistent for element k
+--     recordRules t     the rules, in their order
 --     recordVerdict t   accepted, or number and place
 -- Assumes nothing.
 use mathlib.Core.Bool.{Bool, not, cond, _&&_, _||_}
@@ -66,6 +67,10 @@ missing t k = any (λ K. not (persistentFor K (element t k))) (persistents t)
 abbrev pub countRule : Table → Verdict
 countRule t = refuseIf (badCount t) 3 0
 
+-- rule 4 on a record, and on one element of a file
+abbrev pub placesRule : Table → Verdict
+placesRule t = refuseAt (first (badPlace t) maxElements) 4 suc
+
 abbrev pub elementRule : Table → ℕ → Verdict
 elementRule t k = refuseIf (badElement t k) 4 (suc k)
 
@@ -78,12 +83,14 @@ meetRule t = refuseAt (first (λ k. isSome (disjointFrom t k)) (t .count)) 5 suc
 abbrev pub persistRule : Table → Verdict
 persistRule t = refuseAt (first (missing t) (t .count)) 7 suc
 
-unfoldable pub recordVerdict : Table → Verdict
-recordVerdict t =
-    judge
-    (countRule t
-    ∷ refuseAt (first (badPlace t) maxElements) 4 suc
+abbrev pub recordRules : Table → List Verdict
+recordRules t =
+    countRule t
+    ∷ placesRule t
     ∷ persistentRule t
     ∷ meetRule t
     ∷ persistRule t
-    ∷ [])
+    ∷ []
+
+unfoldable pub recordVerdict : Table → Verdict
+recordVerdict t = judge (recordRules t)

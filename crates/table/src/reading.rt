@@ -10,7 +10,7 @@ ghost use mathlib.Core.Path.{_≡_};
 ghost use Prim.Native.Nat.{_≤_};
 ghost use lib.ListN.{drop};
 ghost use Rattle.table.specs.File.{rest, number, tableOf, readAs, readTable};
-ghost use Rattle.table.specs.Reading.{CountRead, ElementsRead, LastRead, lastRules};
+ghost use Rattle.table.specs.Reading.{CountRead, ElementsRead, LastRead, behindRules};
 ghost use Rattle.table.specs.Record.{zeroTable, meetRule, persistRule};
 ghost use Rattle.table.specs.Search.{InRange};
 ghost use Rattle.verdict.specs.Rules.{refusal, orElse, judge};
@@ -97,7 +97,7 @@ fn read_elements(file: &[u8], count: usize, at: usize) -> Elements
 // The file behind its elements.
 fn read_persistent(file: &[u8], count: usize, elements: [u32; 64], at: usize) -> TableRead
     requires { ⌜ LastRead (now file) count elements at ⌝ }
-    ensures { λ r. ⌜ r ≡ readAs (judge (lastRules (now (file .entry)))) (tableOf (now (file .entry))) ⌝ }
+    ensures { λ r. ⌜ r ≡ readAs (judge (behindRules (now (file .entry)))) (tableOf (now (file .entry))) ⌝ }
 {
     match number::read_at(file, at) {
         NumberRead::Refused(number) => refused(number, count + 1),

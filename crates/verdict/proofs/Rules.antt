@@ -1,6 +1,6 @@
 -- The laws of check lists.
 --     orElse-assoc, orElse-accepted, orElse-left, orElse-right   verdicts in a row
---     judge-append      a list of rules in two parts
+--     judge-append, judge-last      a list of rules in two parts, and with one rule more at its end
 --     judge-accepted    every rule of an accepted list accepts
 --     accepted-judge    a list of rules that all accept
 --     refuseIf-accepted, refuseAt-accepted   what a rule that accepts says of its test, of its search
@@ -9,7 +9,7 @@
 use mathlib.Core.Bool.{Bool, true, false}
 use mathlib.Core.List.{List, [], _∷_, _++_, List·Memᴰ, List·Memᴰ·head, List·Memᴰ·tail}
 use mathlib.Core.Option.{Option, none, some, Option·map}
-use mathlib.Core.Path.{_≡_, refl, _∙_}
+use mathlib.Core.Path.{_≡_, refl, ap, _∙_}
 use Prim.Native.Nat.{ℕ}
 use native.Mathlib.Omega.{arith}
 use Rattle.verdict.specs.declared.Refusal.{Refusal}
@@ -33,6 +33,9 @@ orElse-assoc (Refused r) v w = refl
 pub orElse-accepted : (v : Verdict) → orElse v Accepted ≡ v
 orElse-accepted Accepted = refl
 orElse-accepted (Refused r) = refl
+
+pub judge-last : (vs : List Verdict) (v : Verdict) → judge (vs ++ v ∷ []) ≡ orElse (judge vs) v
+judge-last vs v = judge-append vs (v ∷ []) ∙ ap (orElse (judge vs)) (orElse-accepted v)
 
 pub orElse-left : (v w : Verdict) → orElse v w ≡ Accepted → v ≡ Accepted
 orElse-left Accepted w e = refl

@@ -1,4 +1,4 @@
 pub mod Rules
+pub mod Numbers
 pub mod Writer
 pub mod Answers
-pub mod Numbers

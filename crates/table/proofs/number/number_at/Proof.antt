@@ -19,7 +19,7 @@ more-at-requires c κs = search needs
 
 returns-2 : tie.Need-returns-2
 unfolding numberAt
-returns-2 c = number-long _ _ (c .before .more-at .ensures) (c .if2 .taken)
+returns-2 c = number-long _ _ (c .before .more-at .ensures) (omega arith)
 
 add-last : tie.Need-add-last
 add-last c = search needs
@@ -35,7 +35,7 @@ returns-4 : tie.Need-returns-4
 unfolding numberAt
 returns-4 c =
     number-zero _ _ (c .before .before .before .before .before .more-at .ensures) (c .before .before .before .before .if2 .left)
-    (simp length-drop (omega arith)) (c .before .before .if4 .taken) (rw getD-drop (eqb-true _ _ (c .if5 .taken)))
+    (simp length-drop (omega arith)) (omega arith) (rw getD-drop (eqb-true _ _ (c .if5 .taken)))
 
 add-groups-at : tie.Need-add-groups-at
 add-groups-at c = search needs

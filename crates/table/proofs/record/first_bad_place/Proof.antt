@@ -24,7 +24,7 @@ bad-place-requires c κs = search needs
 
 returns : tie.Need-returns Inv-loop μ-loop
 unfolding lowestBad
-returns c = passed-found (c .before .before .before .loop .inv) (c .before .before .loop-test .taken) (sym (c .before .bad-place .ensures) ∙ c .if1 .taken)
+returns c = passed-found (c .before .before .before .loop .inv) (omega arith) (sym (c .before .bad-place .ensures) ∙ c .if1 .taken)
 
 add-k : tie.Need-add-k Inv-loop μ-loop
 add-k c = search needs
@@ -33,7 +33,7 @@ loop-less : tie.Need-loop-less Inv-loop μ-loop
 loop-less c = omega arith
 
 loop-again : tie.Need-loop-again Inv-loop μ-loop
-loop-again c = passed-more (c .before .before .before .loop .inv) (c .before .before .loop-test .taken) (sym (c .before .bad-place .ensures) ∙ c .if1 .left)
+loop-again c = passed-more (c .before .before .before .loop .inv) (omega arith) (sym (c .before .bad-place .ensures) ∙ c .if1 .left)
 
 returns-2 : tie.Need-returns-2 Inv-loop μ-loop
 unfolding lowestBad

@@ -4,19 +4,20 @@ use mathlib.Core.Path.{ap, _∙_}
 use Prim.Native.Nat.{ℕ}
 use native.Mathlib.Omega.{arith}
 use borrow.Author.Needs.{needs}
-use Rattle.table.proofs.Outputs.{accepted-count, short-output, whole-output}
+use Rattle.table.proofs.Facts.{accepted-table}
+use Rattle.table.proofs.Outputs.{short-output, whole-output}
 use Rattle.verdict.specs.declared.Written.the-variants.{Length}
 use Rattle.table.proofs.writing.write_checked.Statement.{statement}
 use Rattle.table.proofs.writing.write_checked.Tie as tie
 
 file-length-requires : tie.Need-file-length-requires
-file-length-requires c κs = accepted-count _ (c .before .pre)
+file-length-requires c κs = accepted-table _ (c .before .pre) .count-most
 
 returns : tie.Need-returns
 returns c = short-output _ _ (c .before .before .before .pre) (omega arith)
 
 put-table-requires : tie.Need-put-table-requires
-put-table-requires c κs = (accepted-count _ (c .before .before .before .before .pre), omega arith)
+put-table-requires c κs = (accepted-table _ (c .before .before .before .before .pre) .count-most, omega arith)
 
 same-length : tie.Need-same-length
 same-length c = search needs
