@@ -10,7 +10,7 @@ ghost use mathlib.Core.Path.{_≡_};
 ghost use lib.ListN.{length};
 ghost use Rattle.capi.specs.Answers.{ofVerdict, ofTableRead, ofWritten, ofImageRead, ofPassed, ofFigured};
 ghost use Rattle.capi.specs.Part.{partOf, Shows};
-ghost use Rattle.filter.specs.Preview.{previewVerdict, previewArea};
+ghost use Rattle.filter.specs.Previewed.{previewVerdict, previewArea};
 ghost use Rattle.history.specs.Call.{view, figures, stateOf};
 ghost use Rattle.history.specs.Collect.{collectWritten, collectOutput, collectState};
 ghost use Rattle.history.specs.Load.{loadVerdict, loadState};

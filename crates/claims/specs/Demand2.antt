@@ -5,7 +5,7 @@ use mathlib.Core.List.{List}
 use mathlib.Core.Logic.{_↔_, _⊎_}
 use mathlib.Core.Path.{_≡_}
 use Prim.Native.Nat.{ℕ}
-use Rattle.filter.specs.Heijmans.{modified}
+use Rattle.operator.specs.Heijmans.{modified}
 use Rattle.history.proofs.Demand2.{demand-2}
 use Rattle.history.specs.declared.Passed.the-variants.{Changed, Stable}
 use Rattle.history.specs.Call.{Call, pass, passed, answerOf, stateOf, refusalOf}

@@ -7,8 +7,8 @@ use mathlib.Core.Path.{_≡_}
 use Prim.Native.Nat.{ℕ, _+_, _*_, _≤_, _<_}
 use lib.IntN.{subℕ}
 use lib.ListN.{length, getD, replicate, take}
-use Rattle.filter.specs.Image.{IsImage, black, added, removed, differsAt, exchange}
-use Rattle.filter.specs.Pass as filter
+use Rattle.operator.specs.Image.{IsImage, black, added, removed, differsAt, exchange}
+use Rattle.operator.specs.Pass as filter
 use Rattle.history.proofs.Demand3.{demand-3}
 use Rattle.history.specs.declared.Figured.the-variants.{Figures}
 use Rattle.history.specs.declared.Passed.the-variants.{Stable}

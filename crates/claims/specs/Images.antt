@@ -5,22 +5,22 @@ use mathlib.Core.List.{List}
 use mathlib.Core.Path.{_≡_}
 use Prim.Native.Nat.{ℕ, suc, _+_, _-_, _*_, _≤_, _<_}
 use lib.ListN.{length, getD}
-use Rattle.filter.proofs.Counts.{all-counts}
-use Rattle.filter.proofs.Exchange.{exchange-passes}
-use Rattle.filter.proofs.Heijmans.{all-heijmans}
-use Rattle.filter.proofs.Kept.{opened-kept}
-use Rattle.filter.proofs.Order.{order-passes}
+use Rattle.operator.proofs.Counts.{all-counts}
+use Rattle.operator.proofs.Exchange.{exchange-passes}
+use Rattle.operator.proofs.Heijmans.{all-heijmans}
+use Rattle.operator.proofs.Kept.{opened-kept}
+use Rattle.operator.proofs.Order.{order-passes}
 use Rattle.filter.proofs.PassCodeApplied.{all-again}
-use Rattle.filter.proofs.PreviewPlain.{preview-plain}
-use Rattle.filter.proofs.Rest.{all-rest}
-use Rattle.filter.proofs.SingleChange.{single-change}
+use Rattle.operator.proofs.PreviewPlain.{preview-plain}
+use Rattle.operator.proofs.Rest.{all-rest}
+use Rattle.operator.proofs.SingleChange.{single-change}
 use Rattle.filter.specs.Applied.{filtered, filteredArea, again, againArea}
-use Rattle.filter.specs.Heijmans.{psi, modified}
-use Rattle.filter.specs.Image.{IsImage, black, added, removed, differs, differsAt, exchange}
-use Rattle.filter.specs.Pass.{opened, held, pass, passes}
-use Rattle.filter.specs.Plain.{plain}
-use Rattle.filter.specs.Preview.{preview, medianTable}
-use Rattle.filter.specs.Rest.{rested}
+use Rattle.operator.specs.Heijmans.{psi, modified}
+use Rattle.operator.specs.Image.{IsImage, black, added, removed, differs, differsAt, exchange}
+use Rattle.operator.specs.Pass.{opened, held, pass, passes}
+use Rattle.operator.specs.Plain.{plain}
+use Rattle.operator.specs.Preview.{preview, medianTable}
+use Rattle.operator.specs.Rest.{rested}
 use Rattle.morph.specs.Bound.{total}
 use Rattle.seq.specs.Lists.{count}
 use Rattle.seq.specs.Tab.{upTo}

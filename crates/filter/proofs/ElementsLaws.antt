@@ -1,5 +1,4 @@
 -- The element test: a window as a mask, and elements against it.
---     bits-tab              a number made of a table of truth values has them as its bits
 --     mask-bits             the rows' bits, one row above the other, are those of the window
 --     any-stop, any-more, any-end    a loop that looks for the first that passes: what is left decides
 --     all-stop, all-more, all-end    for the first that fails
@@ -26,22 +25,9 @@ use Rattle.seq.proofs.Lists.{one-le, or-left, any-ext, any-none, all-elim}
 use Rattle.seq.proofs.Tests.{between}
 use Rattle.table.specs.Mask.{largestMask, positions, validMask}
 use Rattle.filter.specs.Elements.{matched}
-use Rattle.filter.specs.Preview.{fromBits}
-use Rattle.filter.specs.Window.{windowAt}
-
--- the lowest bit of b + 2 · x is b
-bit-first : (b : Bool) (x : ℕ) → bit (one b + 2 * x) 0 ≡ b
-bit-first true x = bit-one (1 + 2 * x) 0 (ap (λ (m : ℕ). m % 2) (div-one (1 + 2 * x)) ∙ omega arith)
-bit-first false x = bit-none (0 + 2 * x) 0 (λ e. omega (arith, ap (λ (m : ℕ). m % 2) (div-one (0 + 2 * x))))
-
-pub bits-tab : (p : ℕ → Bool) (n k : ℕ) → k < n → bit (fromBits (tab (λ i. one (p i)) n)) k ≡ p k
-bits-tab p zero k l = absurd (not-suc-le-zero l)
-bits-tab p (suc n) zero l = bit-first (p zero) (fromBits (tab (λ i. one (p (suc i))) n))
-bits-tab p (suc n) (suc k) l =
-    step (p zero) (fromBits (tab (λ i. one (p (suc i))) n)) ∙ bits-tab (λ i. p (suc i)) n k (le-of-suc-le-suc l)
-  where
-    step : (b : Bool) (x : ℕ) → bit (one b + 2 * x) (suc k) ≡ bit x k
-    step b x = sym (bit-half (one b + 2 * x) k) ∙ ap (λ (m : ℕ). bit m k) (omega (arith, one-le b))
+use Rattle.operator.proofs.Pattern.{bits-tab}
+use Rattle.operator.specs.Preview.{fromBits}
+use Rattle.operator.specs.Window.{windowAt}
 
 -- a row of the window as five bits
 abbrev pub rowBits : List (List ℕ) → ℕ → ℕ → ℕ

@@ -11,11 +11,11 @@ use Rattle.seq.specs.Lists.{all}
 use Rattle.seq.proofs.Lists.{clash, not-true-false, any-none, all-elim}
 use Rattle.table.specs.Mask.{positions}
 use Rattle.filter.specs.Elements.{matched, Shared}
-use Rattle.filter.specs.Image.{pixel}
+use Rattle.operator.specs.Image.{pixel}
 use Rattle.filter.specs.Walk.{turns}
-use Rattle.filter.specs.Window.{siteRow, siteCol, window, windowAt}
-use Rattle.filter.proofs.Masks.{position-intro}
-use Rattle.filter.proofs.WindowLaws.{window-at}
+use Rattle.operator.specs.Window.{siteRow, siteCol, window, windowAt}
+use Rattle.table.proofs.Masks.{position-intro}
+use Rattle.operator.proofs.Window.{window-at}
 
 missed : (es : List ℕ) (win : List (List ℕ)) (p v : ℕ) → Shared es p → p < 25 → eqb (windowAt win p) v ≡ false → matched es win v ≡ false
 unfolding matched

@@ -18,7 +18,7 @@ use lib.ListN.{getD}
 use Rattle.seq.specs.Loops.{Swept}
 use Rattle.seq.proofs.Tests.{lt-or-le}
 use Rattle.filter.specs.Erosion.{colours, margin, stride, span, within, framedIs, Framed}
-use Rattle.filter.specs.Image.{pixel, IsImage}
+use Rattle.operator.specs.Image.{pixel, IsImage}
 use Rattle.filter.proofs.OpeningCodes.{binary-at, colours-ext, pixel-colours}
 
 pub within-true : (size i : ℕ) → margin ≤ i → i < size + margin → within size i ≡ true

@@ -27,9 +27,9 @@ use Rattle.table.specs.Mask.{across, down, positions}
 use Rattle.table.specs.Record.{persistents}
 use Rattle.verdict.specs.Writer.{over}
 use Rattle.filter.specs.Erosion.{maxWidth, maxHeight, Openable, colours, places, margin, stride, shift, span, within, framedIs, Framed, eroded, openedIn, openedBy, Coded}
-use Rattle.filter.specs.Image.{pixel}
+use Rattle.operator.specs.Image.{pixel}
 use Rattle.filter.specs.OpeningMap.{openCode, openMap}
-use Rattle.filter.specs.Pass.{placed, fits, inside, solid, opened}
+use Rattle.operator.specs.Pass.{placed, fits, inside, solid, opened}
 use Rattle.filter.proofs.OpeningCodes.{colours-ext, bit-colours}
 
 pub frame-room : {w h : ℕ} {img map : List ℕ} → Openable w h img map → stride w * stride h ≤ stride maxWidth * stride maxHeight

@@ -25,9 +25,9 @@ use Rattle.verdict.proofs.Rules.{orElse-left, orElse-right, refuseIf-accepted}
 use Rattle.filter.specs.declared.Filtered.{Filtered}
 use Rattle.filter.specs.declared.Filtered.the-variants as filtering
 use Rattle.filter.specs.Applied.{passVerdict, filtered, filteredArea, switched, rangeVerdict, againVerdict, again, againArea, Again, AllAgain}
-use Rattle.filter.specs.Image.{IsImage}
+use Rattle.operator.specs.Image.{IsImage}
 use Rattle.filter.specs.OpeningMap.{openMap}
-use Rattle.filter.specs.Pass.{pass}
+use Rattle.operator.specs.Pass.{pass}
 use Rattle.filter.specs.Walk.{ranged, walked, Tallied}
 use Rattle.filter.proofs.PassCodeChecks.{accepted-ranged}
 use Rattle.filter.proofs.PassCodeExact.{walked-switched, steps-added, steps-removed, switched-pass}

@@ -24,7 +24,7 @@ use Rattle.verdict.specs.declared.Verdict.the-variants.{Accepted}
 use Rattle.verdict.specs.Writer.{over}
 use Rattle.filter.specs.OpeningMap.{openMap}
 use Rattle.filter.specs.Walk.{ranged}
-use Rattle.filter.proofs.Accepted.{count-most, element-valid}
+use Rattle.table.proofs.Facts.{accepted-table}
 
 -- the table's ranges, from its count and its element places
 pub ranged-of : (t : Table) {es : List ℕ} {b : Bool} → t .count ≤ 64 → es ≡ t .elements → b ≡ all validMask (take (t .count) es) → b ≡ ranged t
@@ -42,10 +42,10 @@ ranged-valid t e = and-right (leb (t .count) maxElements) (all validMask (masks 
 module _ (t : Table) (ok : recordVerdict t ≡ Accepted) where
   pub accepted-ranged : ranged t ≡ true
   unfolding ranged masks
-  accepted-ranged = and-intro (le-leb _ _ (count-most t ok)) (all-intro validMask (masks t) valid)
+  accepted-ranged = and-intro (le-leb _ _ (accepted-table t ok .count-most)) (all-intro validMask (masks t) valid)
     where
       valid : (e : ℕ) → List·Memᴰ e (masks t) → validMask e ≡ true
-      valid e i = let (k, l, q) = take-place (t .count) (t .elements) 0 i in subst (λ (x : ℕ). validMask x ≡ true) (sym q) (element-valid t ok k l)
+      valid e i = let (k, l, q) = take-place (t .count) (t .elements) 0 i in subst (λ (x : ℕ). validMask x ≡ true) (sym q) (accepted-table t ok .element-valid k l)
 
 -- the elements, as a part of the element places
 pub elements-part : (t : Table) {es : List ℕ} → es ≡ t .elements → take (t .count) es ≡ masks t

@@ -24,15 +24,15 @@ use Rattle.table.specs.Record.{masks, recordVerdict}
 use Rattle.verdict.specs.declared.Verdict.the-variants.{Accepted}
 use Rattle.filter.specs.Applied.{switches, switchedAt, switched}
 use Rattle.filter.specs.Elements.{matched}
-use Rattle.filter.specs.Image.{pixel, IsImage, added, removed}
+use Rattle.operator.specs.Image.{pixel, IsImage, added, removed}
 use Rattle.filter.specs.OpeningMap.{openCode, openMap}
-use Rattle.filter.specs.Pass.{opened, held, passAt, pass}
+use Rattle.operator.specs.Pass.{opened, held, passAt, pass}
 use Rattle.filter.specs.Walk.{turns, walkedAt, walked, steps}
-use Rattle.filter.specs.Window.{siteRow, siteCol, window, windowAt}
-use Rattle.filter.proofs.Kept.{opened-pixel, opened-kept}
-use Rattle.filter.proofs.Masks.{position-elim}
-use Rattle.filter.proofs.Placed.{clamp-below}
-use Rattle.filter.proofs.WindowLaws.{window-at, binary-at}
+use Rattle.operator.specs.Window.{siteRow, siteCol, window, windowAt}
+use Rattle.operator.proofs.Kept.{opened-pixel, opened-kept}
+use Rattle.table.proofs.Masks.{position-elim}
+use Rattle.operator.proofs.Placed.{clamp-below}
+use Rattle.operator.proofs.Window.{window-at, binary-at}
 
 -- a code of two truth values of which at most one holds
 code-of : (a b : Bool) (v : ℕ) → v ≤ 1 → (a ≡ true → b ≡ true → ⊥) → eqb (one a + 2 * one b) (v + 1) ≡ cond (eqb v 0) a b

@@ -25,7 +25,7 @@ use Rattle.seq.proofs.Grid.{grid, grid-at, next-row, row-below}
 use Rattle.seq.proofs.Loops.{sweep-none, sweep-more, sweep-end, sweep-join, sweep-front}
 use Rattle.seq.proofs.Tab.{length-tab}
 use Rattle.verdict.specs.Writer.{over}
-use Rattle.filter.specs.Image.{pixel}
+use Rattle.operator.specs.Image.{pixel}
 use Rattle.filter.specs.Walk.{Opened, Copied, walkedAt, walked, Tallied}
 use Rattle.filter.proofs.PassCodeWalk.{opened-stays, tally-none, tally-more}
 

@@ -16,9 +16,9 @@ use Rattle.seq.proofs.Grid.{grid-at}
 use Rattle.seq.proofs.Lists.{count-le}
 use Rattle.seq.proofs.Tab.{length-upTo, count-upTo}
 use Rattle.filter.specs.Elements.{matched}
-use Rattle.filter.specs.Image.{pixel}
+use Rattle.operator.specs.Image.{pixel}
 use Rattle.filter.specs.Walk.{turns, walkedAt, steps, Tallied}
-use Rattle.filter.specs.Window.{window}
+use Rattle.operator.specs.Window.{window}
 
 module _ (es : List ℕ) (w h : ℕ) (codes : List ℕ) (r c v : ℕ) where
   pub opened-stays : (pixel w codes r c ≡ 0 → ⊥) → v ≡ cond (turns es w h codes r c v) (1 - v) v

@@ -1,7 +1,8 @@
 -- The preview's code.
 --     medianAt w h img r c     the answer at (r, c)
 --     nine-pattern      the middle of three rows, as one number
---     pattern-lt               the pattern of nine pixels of value 0 and 1
+--     checked-image, checked-area     pixels that the image writer accepts
+--     preview-refused, preview-short, preview-filled     the preview's answer and area
 -- Assumes nothing.
 use mathlib.Core.Bool.{true}
 use mathlib.Core.List.{List, [], _∷_}
@@ -22,10 +23,11 @@ use Rattle.verdict.specs.declared.Verdict.{Verdict}
 use Rattle.verdict.specs.declared.Verdict.the-variants.{Accepted, Refused}
 use Rattle.verdict.specs.Rules.{refusal}
 use Rattle.verdict.specs.Writer.{over}
-use Rattle.filter.specs.Image.{IsImage}
-use Rattle.filter.specs.Preview.{fromBits, pattern, fiveOrMore, preview, previewVerdict, previewArea}
-use Rattle.filter.specs.Window.{siteRow, siteCol, window, windowAt}
-use Rattle.filter.proofs.WindowLaws.{window-at, binary-at}
+use Rattle.operator.specs.Image.{IsImage}
+use Rattle.operator.specs.Preview.{fromBits, pattern, fiveOrMore, preview}
+use Rattle.filter.specs.Previewed.{previewVerdict, previewArea}
+use Rattle.operator.specs.Window.{siteRow, siteCol, window, windowAt}
+use Rattle.operator.proofs.Window.{window-at, binary-at}
 
 -- the answer at a pixel
 abbrev pub medianAt : ℕ → ℕ → List ℕ → ℕ → ℕ → ℕ
@@ -39,15 +41,6 @@ pub nine-pattern : (win : List (List ℕ)) {a b c : ℕ} → a ≡ threeBits win
     → a + 8 * b + 64 * c ≡ pattern win
 unfolding pattern
 nine-pattern win ha hb hc = omega arith
-
--- nine values of 0 and 1 make a number below 512
-pub pattern-lt : (w h : ℕ) (img : List ℕ) (r c : ℕ) → all (λ v. leb v 1) img ≡ true → pattern (window w h img r c) < 512
-unfolding pattern
-pattern-lt w h img r c e =
-    omega (arith, bound 6 (lit< tt), bound 7 (lit< tt), bound 8 (lit< tt), bound 11 (lit< tt), bound 12 (lit< tt), bound 13 (lit< tt), bound 16 (lit< tt), bound 17 (lit< tt), bound 18 (lit< tt))
-  where
-    bound : (n : ℕ) → n < 25 → windowAt (window w h img r c) n ≤ 1
-    bound n l = rw (window-at w h img r c n l) (binary-at img (siteRow h r n * w + siteCol w c n) e)
 
 -- pixels that the image writer accepts are an image
 pub checked-image : (w h : ℕ) (px : List ℕ) → pixelVerdict w h px ≡ Accepted → IsImage w h px

@@ -14,8 +14,8 @@ use Prim.Native.Nat.{ℕ, _-_, _*_, _/_, _%_}
 use lib.ListN.{length}
 use Rattle.filter.specs.declared.Filtered.{Filtered}
 use Rattle.filter.specs.declared.Filtered.the-variants as filtering
-use Rattle.filter.specs.Image.{pixel, added, removed}
-use Rattle.filter.specs.Pass.{opened, held, pass}
+use Rattle.operator.specs.Image.{pixel, added, removed}
+use Rattle.operator.specs.Pass.{opened, held, pass}
 use Rattle.filter.specs.Walk.{ranged}
 use Rattle.image.specs.File.{pixelVerdict, areaRule}
 use Rattle.seq.specs.Tab.{tab}

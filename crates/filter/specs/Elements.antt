@@ -7,7 +7,7 @@ use mathlib.Core.List.{List}
 use mathlib.Core.Path.{_≡_}
 use Prim.Native.Nat.{ℕ, _<_}
 use lib.Dec.{eqb}
-use Rattle.filter.specs.Window.{windowAt}
+use Rattle.operator.specs.Window.{windowAt}
 use Rattle.seq.specs.Bits.{bit}
 use Rattle.seq.specs.Lists.{any, all}
 use Rattle.table.specs.Mask.{positions}

@@ -31,7 +31,7 @@ use mathlib.Core.Path.{_≡_}
 use Prim.Native.Nat.{ℕ, _+_, _-_, _*_, _≤_, _<_}
 use lib.Dec.{leb, ltb, eqb}
 use lib.ListN.{length, getD}
-use Rattle.filter.specs.Image.{pixel, IsImage}
+use Rattle.operator.specs.Image.{pixel, IsImage}
 use Rattle.seq.specs.Bits.{bit}
 use Rattle.seq.specs.Lists.{any, all, one}
 use Rattle.table.specs.Mask.{across, down, positions}

@@ -4,7 +4,7 @@
 -- Assumes nothing.
 use mathlib.Core.List.{List}
 use Prim.Native.Nat.{ℕ, _+_, _*_, _/_, _%_}
-use Rattle.filter.specs.Pass.{opened}
+use Rattle.operator.specs.Pass.{opened}
 use Rattle.seq.specs.Lists.{one}
 use Rattle.seq.specs.Tab.{tab}
 use Rattle.table.specs.declared.Table.{Table}

@@ -16,8 +16,8 @@ use Prim.Native.Nat.{ℕ, _+_, _-_, _*_, _/_, _%_, _≤_, _<_}
 use lib.Dec.{leb, eqb}
 use lib.ListN.{length, getD}
 use Rattle.filter.specs.Elements.{matched}
-use Rattle.filter.specs.Image.{pixel, IsImage}
-use Rattle.filter.specs.Window.{window}
+use Rattle.operator.specs.Image.{pixel, IsImage}
+use Rattle.operator.specs.Window.{window}
 use Rattle.seq.specs.Lists.{all, count}
 use Rattle.seq.specs.Tab.{tab, upTo}
 use Rattle.table.specs.declared.Table.{Table}

@@ -11,7 +11,7 @@ ghost use Prim.Native.Nat.{_*_, _≤_};
 ghost use lib.ListN.{length};
 ghost use Rattle.filter.specs.Applied;
 ghost use Rattle.filter.specs.Applied.{filteredArea, againVerdict, againArea};
-ghost use Rattle.filter.specs.Image.{IsImage};
+ghost use Rattle.operator.specs.Image.{IsImage};
 ghost use Rattle.filter.specs.OpeningMap.{openMap};
 ghost use Rattle.filter.specs.Walk.{ranged, walked, Tallied};
 ghost use Rattle.seq.specs.Lists.{all};

@@ -7,7 +7,7 @@ ghost use lib.Bits.{bitAnd, bitOr};
 ghost use lib.Dec.{leb};
 ghost use lib.ListN.{length, getD};
 ghost use Rattle.filter.specs.Erosion.{Openable, Framed, Codes, Coded, places, margin, stride, shift, span, eroded, spread, openedIn, joined};
-ghost use Rattle.filter.specs.Image.{IsImage};
+ghost use Rattle.operator.specs.Image.{IsImage};
 ghost use Rattle.filter.specs.OpeningMap.{openMap};
 ghost use Rattle.seq.specs.Bits.{bit};
 ghost use Rattle.seq.specs.Lists.{all};

@@ -2,8 +2,8 @@
 ghost use mathlib.Core.Path.{_≡_};
 ghost use Prim.Native.Nat.{_+_, _*_, _≤_, _<_};
 ghost use lib.ListN.{length, getD};
-ghost use Rattle.filter.specs.Image.{pixel};
-ghost use Rattle.filter.specs.Window.{clamp, siteRow, siteCol, window};
+ghost use Rattle.operator.specs.Image.{pixel};
+ghost use Rattle.operator.specs.Window.{clamp, siteRow, siteCol, window};
 ghost use Rattle.seq.specs.Tab.{tab};
 
 // How far the window reaches from its centre.

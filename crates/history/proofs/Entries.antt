@@ -4,7 +4,7 @@
 -- Assumes nothing.
 use mathlib.Core.Bool.{Bool, true, false, cond}
 use mathlib.Core.Path.{_≡_, ap, _∙_}
-use Rattle.filter.specs.Image.{differs}
+use Rattle.operator.specs.Image.{differs}
 use Rattle.history.specs.History.{Entry, nextOf, joined, marked, passed}
 
 pub cond-true {ℓ} : {A : Type ℓ} {b : Bool} (x y : A) → b ≡ true → cond b x y ≡ x

@@ -18,10 +18,11 @@ use Rattle.history.specs.Lists.{lengthsOf, tallied, tallyAs}
 use Rattle.history.specs.Load.{areasRule, loadVerdict, loadedJob, loadAs, loadState}
 use Rattle.history.specs.State.{State, emptyJob, present, image}
 use Rattle.history.proofs.Areas.{take-over, length-over}
-use Rattle.history.proofs.Images.{file-sized, file-image}
+use Rattle.history.proofs.Images.{file-image}
 use Rattle.history.proofs.Related.{Held, RelatedTo}
 use Rattle.history.proofs.Row.{alone}
 use Rattle.history.proofs.Sound.{sound-empty, sound-held, stage-held}
+use Rattle.image.proofs.Facts.{accepted-file}
 use Rattle.image.specs.File.{fileVerdict}
 use Rattle.image.specs.Header.{widthOf, heightOf}
 use Rattle.image.specs.RoundTrip.{imageOf}
@@ -85,7 +86,7 @@ unfolding entered loadedJob image present
 load-entered t f s x = let sized = file-image f (x .file) .sized in record {
   job = refl;
   accepted = x .table;
-  sized = file-sized f (x .file);
+  sized = accepted-file f (x .file) .sized;
   first-long = rw (length-over (imageOf f) (s .first) (omega (arith, x .first-long))) (x .first-long);
   second-long = x .second-long;
   shown = take-over (imageOf f) (s .first) _ sized;

@@ -1,30 +1,29 @@
 -- No call of a list answers 14: the history refuses by other numbers only.
---     inputNumbers, record-numbers, file-numbers, load-numbers     what a table and a file are refused by
---     callNumbers, call-numbers                                    what the history refuses by
---     never-14                                                     the claim
+--     inputNumbers, load-numbers     what a load is refused by because of its input
+--     callNumbers, call-numbers      what the history refuses by
+--     never-14                       the claim
 -- Assumes nothing.
 use mathlib.Core.Bool.{true, not, _||_}
 use mathlib.Core.List.{List, [], _∷_}
 use mathlib.Core.Logic.{_≢_}
 use mathlib.Core.Path.{_≡_, refl}
-use Prim.Native.Nat.{ℕ, suc, _+_, _*_}
-use lib.Dec.{ltb, eqb}
+use Prim.Native.Nat.{ℕ, _*_}
+use lib.Dec.{ltb}
 use lib.ListN.{length}
 use Rattle.history.specs.Call.{Call, load, pass, run, view, figures, collect}
 use Rattle.history.specs.History.{History, empty, holds, Lengths, refusedBy}
 use Rattle.history.specs.Load.{areasRule}
-use Rattle.image.specs.File.{fileVerdict, paddingSet, imageBytes}
-use Rattle.image.specs.Header.{headerForm, widthOf, heightOf, raster}
-use Rattle.image.specs.Size.{badSize, rowBytes}
-use Rattle.seq.specs.Lists.{isSome}
-use Rattle.seq.specs.Tab.{first}
+use Rattle.image.proofs.Facts.{file-numbers}
+use Rattle.image.specs.File.{fileVerdict, imageBytes}
+use Rattle.image.specs.Header.{widthOf, heightOf}
+use Rattle.table.proofs.Verdicts.{record-numbers}
 use Rattle.table.specs.declared.Table.{Table}
-use Rattle.table.specs.Record.{maxElements, badCount, badPlace, badPersistent, disjointFrom, missing, recordVerdict}
+use Rattle.table.specs.Record.{recordVerdict}
 use Rattle.verdict.specs.declared.Refusal.{Refusal}
 use Rattle.verdict.specs.declared.Verdict.the-variants.{Refused}
 use Rattle.verdict.specs.Numbers.{OneOf, accepts, refuses}
 use Rattle.verdict.specs.Rules.{judge}
-use Rattle.verdict.proofs.Numbers.{one-of-if, one-of-at, one-of-or, one-of-more, one-of-other}
+use Rattle.verdict.proofs.Numbers.{one-of-if, one-of-or, one-of-more, one-of-other}
 
 -- because of the input
 abbrev pub inputNumbers : List ℕ
@@ -34,27 +33,10 @@ inputNumbers = 3 ∷ 4 ∷ 5 ∷ 6 ∷ 7 ∷ 9 ∷ 10 ∷ 11 ∷ 12 ∷ 13 ∷ [
 abbrev callNumbers : List ℕ
 callNumbers = 15 ∷ 16 ∷ 17 ∷ inputNumbers
 
-record-numbers : (t : Table) → OneOf inputNumbers (recordVerdict t)
-unfolding recordVerdict
-record-numbers t =
-    one-of-or (one-of-if (badCount t) 3 0 refl)
-    (one-of-or (one-of-at (first (badPlace t) maxElements) 4 suc refl)
-    (one-of-or (one-of-if (badPersistent t) 6 (t .count + 1) refl)
-    (one-of-or (one-of-at (first (λ k. isSome (disjointFrom t k)) (t .count)) 5 suc refl)
-    (one-of-or (one-of-at (first (missing t) (t .count)) 7 suc refl) accepts))))
-
-file-numbers : (f : List ℕ) → OneOf inputNumbers (fileVerdict f)
-unfolding fileVerdict
-file-numbers f =
-    one-of-or (one-of-if (not (headerForm f)) 9 0 refl)
-    (one-of-or (one-of-if (badSize (widthOf f) (heightOf f)) 10 0 refl)
-    (one-of-or (one-of-if (not (eqb (length (raster f)) (rowBytes (widthOf f) * heightOf f))) 11 0 refl)
-    (one-of-or (one-of-at (first (paddingSet (widthOf f) (raster f)) (heightOf f)) 12 (λ row. row) refl) accepts)))
-
 pub load-numbers : (t : Table) (f : List ℕ) (n m : ℕ) → OneOf inputNumbers (judge (recordVerdict t ∷ fileVerdict f ∷ areasRule f n m ∷ []))
 load-numbers t f n m =
-    one-of-or (record-numbers t)
-    (one-of-or (file-numbers f) (one-of-or (one-of-if (ltb n (widthOf f * heightOf f) || ltb m (widthOf f * heightOf f)) 13 0 refl) accepts))
+    one-of-or (one-of-more (record-numbers t) refl)
+    (one-of-or (one-of-more (file-numbers f) refl) (one-of-or (one-of-if (ltb n (widthOf f * heightOf f) || ltb m (widthOf f * heightOf f)) 13 0 refl) accepts))
 
 call-numbers : (c : Call) (n : Lengths) (H : History) → OneOf callNumbers (refusedBy c n H)
 unfolding refusedBy

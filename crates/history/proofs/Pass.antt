@@ -16,9 +16,9 @@ use native.Mathlib.Numerals.{add-one}
 use native.Mathlib.Omega.{arith}
 use borrow.Author.Tests.{le-ltb}
 use lib.ListN.{length}
-use Rattle.filter.specs.Image.{IsImage, added, removed, differs}
-use Rattle.filter.specs.Pass as filter
-use Rattle.filter.proofs.Counts.{all-counts, differs-equal}
+use Rattle.operator.specs.Image.{IsImage, added, removed, differs}
+use Rattle.operator.specs.Pass as filter
+use Rattle.operator.proofs.Counts.{all-counts, differs-equal}
 use Rattle.history.specs.declared.Job.{Job}
 use Rattle.history.specs.declared.Passed.the-variants as answer
 use Rattle.history.specs.History.{Entry, nextOf, joined, marked, passed}

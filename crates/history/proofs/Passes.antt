@@ -9,7 +9,7 @@ use Prim.Native.Nat.{ℕ, _+_, _<_}
 use native.Mathlib.Omega.{arith}
 use borrow.Author.Tests.{eq-eqb, ne-eqb, eqb-true, eqb-false}
 use lib.Dec.{eqb}
-use Rattle.filter.specs.Image.{differs}
+use Rattle.operator.specs.Image.{differs}
 use Rattle.history.specs.declared.Job.{Job}
 use Rattle.history.specs.declared.Passed.the-variants as passed
 use Rattle.history.specs.Pass.{Outcome, nextImage, exceeds, withNext, changedJob, stableJob, changing, passLoaded, passReady, passOf}

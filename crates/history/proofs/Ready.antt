@@ -15,13 +15,14 @@ use borrow.Author.Tests.{ltb-false, eqb-false, le-ltb, ne-eqb, le-leb, leb-true}
 use lib.Dec.{ltb, eqb, leb}
 use lib.ListN.{length, getD}
 use lib.Seq.{length-take-le}
-use Rattle.filter.specs.Image.{IsImage}
-use Rattle.filter.proofs.Operator.{pass-image}
+use Rattle.operator.specs.Image.{IsImage}
+use Rattle.operator.proofs.Operator.{pass-image}
 use Rattle.history.specs.Pass.{nextImage, exceeds, withNext, changedJob, stableJob}
 use Rattle.history.specs.State.{State, pixels, even, present, image, inconsistent, unsound, soundRule, loadedRule, readyVerdict}
 use Rattle.history.proofs.Areas.{next-job, next-first, next-second, next-changed, next-stable}
-use Rattle.history.proofs.Images.{none-above, sized-sides}
+use Rattle.history.proofs.Images.{none-above}
 use Rattle.image.proofs.PixelsOf.{good-pixels}
+use Rattle.image.proofs.RowBytes.{sides}
 use Rattle.image.specs.File.{pixelVerdict}
 use Rattle.image.specs.Size.{badSize}
 use Rattle.history.specs.Sound.{Ready}
@@ -99,8 +100,8 @@ module _ {s : State} (r : Ready s) where
   pub ready-image : IsImage (s .job .width) (s .job .height) (image s)
   unfolding image
   ready-image = record {
-    wide = sized-sides _ _ (r .sized) .0;
-    high = sized-sides _ _ (r .sized) .1;
+    wide = sides _ _ (r .sized) .wide;
+    high = sides _ _ (r .sized) .tall;
     sized = length-take-le (pixels (s .job)) (present s) present-long;
     binary = all-intro (λ v. leb v 1) (image s) low;
   }

@@ -8,8 +8,8 @@ use mathlib.Core.Bool.{Bool, true, false, cond}
 use mathlib.Core.Path.{_≡_}
 use Prim.Native.Nat.{ℕ, _*_, _≤_}
 use lib.ListN.{length}
-use Rattle.filter.specs.Image.{IsImage, added, removed}
-use Rattle.filter.specs.Pass as filter
+use Rattle.operator.specs.Image.{IsImage, added, removed}
+use Rattle.operator.specs.Pass as filter
 use Rattle.history.specs.declared.Job.{Job}
 use Rattle.history.specs.History.{Entry, History, empty, holds}
 use Rattle.history.specs.Lists.{Course, firstOf, overSteps}

@@ -12,8 +12,8 @@ use Prim.Native.Nat.{ℕ, zero, suc, _+_, _*_, _≤_}
 use native.Mathlib.Omega.{arith}
 use borrow.Author.Tests.{not-false, le-ltb}
 use lib.ListN.{length, take}
-use Rattle.filter.specs.Image.{differs}
-use Rattle.filter.specs.Pass.{Stable}
+use Rattle.operator.specs.Image.{differs}
+use Rattle.operator.specs.Pass.{Stable}
 use Rattle.history.specs.Answered.{fileOf, answeredBy}
 use Rattle.history.specs.Call.{Call, load, pass, run, view, figures, collect, isCollect, collected, answerOf, stateOf, refusalOf}
 use Rattle.history.specs.Collect.{collectVerdict, collectState}

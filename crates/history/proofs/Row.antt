@@ -13,11 +13,11 @@ use mathlib.Core.Path.{_≡_, refl, sym, ap, ap₂, _∙_}
 use Prim.Native.Nat.{ℕ, zero, suc, _+_, _*_, _≤_, _<_}
 use native.Mathlib.Omega.{arith}
 use lib.ListN.{length}
-use Rattle.filter.specs.Image.{IsImage, black, added, removed, differs, differsAt}
-use Rattle.filter.specs.Pass.{pass, passes, Stable}
-use Rattle.filter.proofs.Counts.{all-counts, equal-differs}
-use Rattle.filter.proofs.Rest.{all-rest}
-use Rattle.filter.proofs.SingleChange.{single-change}
+use Rattle.operator.specs.Image.{IsImage, black, added, removed, differs, differsAt}
+use Rattle.operator.specs.Pass.{pass, passes, Stable}
+use Rattle.operator.proofs.Counts.{all-counts, equal-differs}
+use Rattle.operator.proofs.Rest.{all-rest}
+use Rattle.operator.proofs.SingleChange.{single-change}
 use Rattle.history.specs.Lists.{oldest, sumSteps}
 use Rattle.morph.specs.Bound.{total}
 use Rattle.seq.specs.Lists.{one, count}

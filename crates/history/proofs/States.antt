@@ -14,8 +14,8 @@ use native.Mathlib.Omega.{arith}
 use borrow.Author.Tests.{ltb-true, ltb-false, lt-ltb, eqb-true, eqb-false, eq-eqb, ne-eqb, leb-true}
 use lib.Dec.{ltb, leb, eqb}
 use lib.ListN.{length}
-use Rattle.filter.specs.Image.{differs}
-use Rattle.filter.proofs.Counts.{differs-equal, equal-differs}
+use Rattle.operator.specs.Image.{differs}
+use Rattle.operator.proofs.Counts.{differs-equal, equal-differs}
 use Rattle.history.specs.declared.Passed.{Passed}
 use Rattle.history.specs.declared.Passed.the-variants as passing
 use Rattle.history.specs.Answers.{passedVerdict}

@@ -10,14 +10,14 @@ use mathlib.Core.Logic.{_⊎_, inl, inr}
 use mathlib.Core.Path.{_≡_, sym, ap, _∙_, subst₂}
 use Prim.Native.Nat.{ℕ}
 use lib.ListN.{length}
-use Rattle.filter.specs.Heijmans.{modified}
-use Rattle.filter.specs.Image.{IsImage, added, removed, exchange, Covered}
-use Rattle.filter.specs.Pass.{passes, Stable}
-use Rattle.filter.specs.Rest.{rested}
-use Rattle.filter.proofs.Exchange.{exchange-passes}
-use Rattle.filter.proofs.Heijmans.{all-heijmans}
-use Rattle.filter.proofs.Order.{order-passes}
-use Rattle.filter.proofs.Rest.{all-rest}
+use Rattle.operator.specs.Heijmans.{modified}
+use Rattle.operator.specs.Image.{IsImage, added, removed, exchange, Covered}
+use Rattle.operator.specs.Pass.{passes, Stable}
+use Rattle.operator.specs.Rest.{rested}
+use Rattle.operator.proofs.Exchange.{exchange-passes}
+use Rattle.operator.proofs.Heijmans.{all-heijmans}
+use Rattle.operator.proofs.Order.{order-passes}
+use Rattle.operator.proofs.Rest.{all-rest}
 use Rattle.history.specs.Call.{passed, answerOf}
 use Rattle.history.specs.Demand3.{Twins, Rests}
 use Rattle.history.specs.History.{Entry}

@@ -10,10 +10,10 @@ use mathlib.Core.Logic.{inl, inr}
 use mathlib.Core.Path.{_≡_, refl, sym, ap, _∙_, subst}
 use Prim.Native.Nat.{ℕ}
 use native.Mathlib.Omega.{arith}
-use Rattle.filter.specs.Heijmans.{modified}
-use Rattle.filter.specs.Image.{differs}
-use Rattle.filter.proofs.Counts.{differs-equal, equal-differs}
-use Rattle.filter.proofs.Heijmans.{all-heijmans}
+use Rattle.operator.specs.Heijmans.{modified}
+use Rattle.operator.specs.Image.{differs}
+use Rattle.operator.proofs.Counts.{differs-equal, equal-differs}
+use Rattle.operator.proofs.Heijmans.{all-heijmans}
 use Rattle.history.specs.declared.Job.{Job}
 use Rattle.history.specs.declared.Passed.the-variants as passing
 use Rattle.history.specs.Call.{pass, passed, answerOf, stateOf, refusalOf}

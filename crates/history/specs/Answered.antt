@@ -8,7 +8,7 @@ use mathlib.Core.Bool.{Bool, cond}
 use mathlib.Core.List.{List}
 use Prim.Native.Nat.{ℕ, _*_}
 use lib.IntN.{subℕ}
-use Rattle.filter.specs.Image.{black, added, removed}
+use Rattle.operator.specs.Image.{black, added, removed}
 use Rattle.history.specs.declared.Figured.{Figured}
 use Rattle.history.specs.declared.Figured.the-variants.{Figures}
 use Rattle.history.specs.declared.Passed.{Passed}

@@ -15,9 +15,9 @@ use mathlib.Core.Logic.{_↔_, _⊎_, _≢_}
 use mathlib.Core.Path.{_≡_}
 use Prim.Native.Nat.{ℕ, _+_, _*_, _≤_}
 use lib.ListN.{length, replicate, take}
-use Rattle.filter.specs.Heijmans.{modified}
-use Rattle.filter.specs.Image.{IsImage, black, added, removed, differsAt, exchange, Covered}
-use Rattle.filter.specs.Pass as filter
+use Rattle.operator.specs.Heijmans.{modified}
+use Rattle.operator.specs.Image.{IsImage, black, added, removed, differsAt, exchange, Covered}
+use Rattle.operator.specs.Pass as filter
 use Rattle.history.specs.declared.Passed.the-variants.{Changed, Stable}
 use Rattle.history.specs.Answered.{answeredBy}
 use Rattle.history.specs.Call.{Call, load, pass, run, collect, passed, collected, answerOf, stateOf, refusalOf}

@@ -11,8 +11,8 @@ use mathlib.Core.List.{List, [], _∷_}
 use Prim.Native.Nat.{ℕ, zero, suc, _+_, _*_}
 use lib.Dec.{ltb}
 use lib.ListN.{length}
-use Rattle.filter.specs.Image.{differs}
-use Rattle.filter.specs.Pass as filter
+use Rattle.operator.specs.Image.{differs}
+use Rattle.operator.specs.Pass as filter
 use Rattle.history.specs.Call.{Call, load, pass, run, view, figures, collect}
 use Rattle.history.specs.Load.{areasRule}
 use Rattle.image.specs.File.{fileVerdict, imageBytes}

@@ -11,7 +11,7 @@ use mathlib.Core.Bool.{Bool, true, cond, not, _&&_}
 use mathlib.Core.List.{List, [], _∷_}
 use Prim.Native.Nat.{ℕ, zero, suc, _+_, _*_}
 use lib.ListN.{length}
-use Rattle.filter.specs.Image.{differs}
+use Rattle.operator.specs.Image.{differs}
 use Rattle.history.specs.Call.{Call, load, pass, run, view, figures, collect, isCollect, answerOf, stateOf, refusalOf}
 use Rattle.history.specs.History.{Entry, History, empty, holds, Lengths, nextOf, joined, refusedBy, after}
 use Rattle.history.specs.State.{State, emptyJob}

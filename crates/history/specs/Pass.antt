@@ -6,8 +6,8 @@ use mathlib.Core.Bool.{Bool, cond, _||_}
 use mathlib.Core.List.{List}
 use Prim.Native.Nat.{ℕ, _+_}
 use lib.Dec.{ltb, eqb}
-use Rattle.filter.specs.Image.{added, removed, differs}
-use Rattle.filter.specs.Pass.{pass}
+use Rattle.operator.specs.Image.{added, removed, differs}
+use Rattle.operator.specs.Pass.{pass}
 use Rattle.history.specs.declared.Job.{Job}
 use Rattle.history.specs.declared.Passed.{Passed}
 use Rattle.history.specs.declared.Passed.the-variants as passed

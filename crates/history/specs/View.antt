@@ -5,7 +5,7 @@
 use mathlib.Core.List.{List, []}
 use Prim.Native.Nat.{ℕ, _*_, _/_}
 use lib.IntN.{subℕ}
-use Rattle.filter.specs.Image.{black}
+use Rattle.operator.specs.Image.{black}
 use Rattle.history.specs.declared.Figured.{Figured}
 use Rattle.history.specs.declared.Figured.the-variants as figured
 use Rattle.history.specs.State.{State, pixels, image, readyVerdict}

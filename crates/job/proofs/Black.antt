@@ -11,7 +11,7 @@ use borrow.Author.Tests.{eq-eqb, ne-eqb}
 use lib.Dec.{eqb}
 use lib.ListN.{length, getD, take}
 use lib.Seq.{take-all}
-use Rattle.filter.specs.Image.{black}
+use Rattle.operator.specs.Image.{black}
 use Rattle.seq.specs.Lists.{one, count}
 use Rattle.seq.proofs.Fronts.{count-front}
 

@@ -6,8 +6,8 @@ use mathlib.Core.List.{List}
 use mathlib.Core.Logic.{⊎-elim}
 use mathlib.Core.Path.{_≡_, sym, _∙_}
 use Prim.Native.Nat.{ℕ, _+_}
-use Rattle.filter.specs.Image.{IsImage, added, removed, differs}
-use Rattle.filter.proofs.Counts.{differs-equal, equal-differs, unchanged-equal, equal-unchanged}
+use Rattle.operator.specs.Image.{IsImage, added, removed, differs}
+use Rattle.operator.proofs.Counts.{differs-equal, equal-differs, unchanged-equal, equal-unchanged}
 use Rattle.seq.proofs.Lists.{either}
 
 module _ {w h : ℕ} {a b : List ℕ} (m : IsImage w h a) (n : IsImage w h b) where

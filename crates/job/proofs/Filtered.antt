@@ -12,7 +12,7 @@ use Rattle.filter.proofs.PassCodeApplied.{all-again}
 use Rattle.filter.specs.Applied.{passVerdict, filtered, filteredArea, again, againArea}
 use Rattle.filter.specs.declared.Filtered.{Filtered}
 use Rattle.filter.specs.declared.Filtered.the-variants.{Counts, Refused}
-use Rattle.filter.specs.Image.{added, removed}
+use Rattle.operator.specs.Image.{added, removed}
 use Rattle.history.specs.Pass.{nextImage}
 use Rattle.history.specs.Sound.{Ready}
 use Rattle.history.specs.State.{State, pixels, image}

@@ -15,7 +15,7 @@ use native.Mathlib.Omega.{arith}
 use borrow.Author.Tests.{leb-true, not-false}
 use lib.Dec.{leb, ltb, eqb}
 use lib.ListN.{length, getD}
-use Rattle.filter.specs.Image.{added, removed, differs}
+use Rattle.operator.specs.Image.{added, removed, differs}
 use Rattle.history.specs.declared.Job.{Job}
 use Rattle.history.specs.declared.Passed.the-variants as passed
 use Rattle.history.specs.Pass.{nextImage, nowAdded, nowRemoved, exceeds, withNext, changedJob, stableJob, changing, passLoaded}

@@ -12,7 +12,7 @@ use native.Mathlib.Omega.{arith}
 use lib.Dec.{eqb}
 use lib.IntN.{ℤ, subℕ}
 use lib.ListN.{length}
-use Rattle.filter.specs.Image.{black}
+use Rattle.operator.specs.Image.{black}
 use Rattle.history.specs.Call.{view, figures, stateOf}
 use Rattle.history.specs.declared.Figured.{Figured}
 use Rattle.history.specs.declared.Figured.the-variants as figured

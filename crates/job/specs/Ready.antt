@@ -5,7 +5,7 @@
 use mathlib.Core.List.{List}
 use mathlib.Core.Path.{_≡_}
 use Prim.Native.Nat.{ℕ}
-use Rattle.filter.specs.Image as filter
+use Rattle.operator.specs.Image as filter
 use Rattle.history.specs.Pass.{Outcome, nextImage}
 use Rattle.history.specs.State as state
 use Rattle.history.specs.State.{State}

@@ -2,7 +2,7 @@
 ghost use mathlib.Core.Path.{_≡_};
 ghost use Prim.Native.Nat.{_+_, _≤_, _<_};
 ghost use lib.IntN.{subℕ};
-ghost use Rattle.filter.specs.Image;
+ghost use Rattle.operator.specs.Image;
 ghost use Rattle.history.specs.View;
 
 // Thousandths of the pixels that are black, cut down.

@@ -7,9 +7,9 @@ use mathlib.Core.List.{List, [], _∷_}
 use Prim.Native.Nat.{ℕ, _-_, _*_, _/_, _%_}
 use lib.Dec.{eqb, leb, ltb}
 use lib.ListN.{replicate}
-use Rattle.filter.specs.Image.{differsAt}
-use Rattle.filter.specs.Pass.{opened}
-use Rattle.filter.specs.Plain.{plain}
+use Rattle.operator.specs.Image.{differsAt}
+use Rattle.operator.specs.Pass.{opened}
+use Rattle.operator.specs.Plain.{plain}
 use Rattle.history.specs.declared.Job.{Job}
 use Rattle.history.specs.Call.{load, run}
 use Rattle.history.specs.Demand3.{played}

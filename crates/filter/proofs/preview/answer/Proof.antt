@@ -4,7 +4,7 @@ use Prim.Native.Nat.{_+_, _*_}
 use native.Mathlib.Omega.{arith}
 use borrow.Author.Needs.{needs}
 use Rattle.seq.proofs.Tab.{getD-tab}
-use Rattle.filter.specs.Preview.{pattern, fiveOrMore}
+use Rattle.operator.specs.Preview.{pattern, fiveOrMore}
 use Rattle.filter.proofs.PreviewLaws.{nine-pattern}
 use Rattle.filter.proofs.preview.answer.Statement.{statement}
 use Rattle.filter.proofs.preview.answer.Tie as tie

@@ -2,7 +2,7 @@
 use mathlib.Core.Path.{refl}
 use Rattle.seq.specs.Bits.{bit}
 use Rattle.seq.specs.Tab.{upTo}
-use Rattle.filter.specs.Preview.{fiveOrMore}
+use Rattle.operator.specs.Preview.{fiveOrMore}
 use Rattle.filter.proofs.preview.answers.Statement.{statement}
 use Rattle.filter.proofs.preview.answers.Tie as tie
 

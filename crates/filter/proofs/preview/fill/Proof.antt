@@ -2,9 +2,9 @@
 use Prim.Native.Nat.{_-_}
 use borrow.Author.Needs.{needs}
 use Rattle.seq.proofs.Rows.{Rowed, rowed-none, rowed-more, rowed-length, rowed-room}
-use Rattle.filter.specs.Preview.{preview}
+use Rattle.operator.specs.Preview.{preview}
 use Rattle.filter.proofs.PreviewLaws.{medianAt}
-use Rattle.filter.proofs.WindowLaws.{rowed-over}
+use Rattle.operator.proofs.Window.{rowed-over}
 use Rattle.filter.proofs.preview.fill.Statement.{statement}
 use Rattle.filter.proofs.preview.fill.Tie as tie
 

@@ -6,8 +6,9 @@ use native.Mathlib.Nat.{le-antisymm}
 use native.Mathlib.Omega.{arith}
 use borrow.Author.Needs.{needs}
 use Rattle.seq.proofs.Stores.{Stored, stored-none, stored-more, stored-length, stored-all}
-use Rattle.filter.specs.Preview.{pattern, fiveOrMore}
-use Rattle.filter.proofs.PreviewLaws.{medianAt, pattern-lt}
+use Rattle.operator.specs.Preview.{pattern, fiveOrMore}
+use Rattle.filter.proofs.PreviewLaws.{medianAt}
+use Rattle.operator.proofs.Pattern.{pattern-lt}
 use Rattle.filter.proofs.preview.fill_row.Statement.{statement}
 use Rattle.filter.proofs.preview.fill_row.Tie as tie
 

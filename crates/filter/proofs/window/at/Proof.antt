@@ -4,7 +4,7 @@ use Prim.Native.Nat.{_+_, _*_, _≤_}
 use native.Mathlib.Omega.{arith}
 use borrow.Author.Needs.{needs}
 use lib.ListN.{length}
-use Rattle.filter.proofs.WindowLaws.{side-le, row-within}
+use Rattle.operator.proofs.Window.{side-le, row-within}
 use Rattle.filter.proofs.window.at.Statement.{statement}
 use Rattle.filter.proofs.window.at.Tie as tie
 

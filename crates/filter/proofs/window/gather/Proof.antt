@@ -2,8 +2,8 @@
 use Prim.Native.Nat.{_≤_}
 use native.Mathlib.Nat.{add-zero}
 use lib.ListN.{length}
-use Rattle.filter.specs.Window.{window}
-use Rattle.filter.proofs.WindowLaws.{side-le}
+use Rattle.operator.specs.Window.{window}
+use Rattle.operator.proofs.Window.{side-le}
 use native.Mathlib.Omega.{arith}
 use borrow.Author.Needs.{needs}
 use Rattle.filter.proofs.window.gather.Statement.{statement}

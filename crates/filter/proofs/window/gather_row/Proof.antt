@@ -4,7 +4,7 @@ use Prim.Native.Nat.{_+_, _*_, _≤_}
 use native.Mathlib.Omega.{arith}
 use borrow.Author.Needs.{needs}
 use lib.ListN.{length}
-use Rattle.filter.proofs.WindowLaws.{row-within}
+use Rattle.operator.proofs.Window.{row-within}
 use Rattle.filter.proofs.window.gather_row.Statement.{statement}
 use Rattle.filter.proofs.window.gather_row.Tie as tie
 

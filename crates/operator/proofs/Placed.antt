@@ -13,8 +13,8 @@ use Prim.Native.Nat.{ℕ, _+_, _≤_, _<_}
 use native.Mathlib.Omega.{arith}
 use lib.Dec.{leb}
 use borrow.Author.Tests.{leb-true, ltb-true, le-leb, lt-ltb}
-use Rattle.filter.specs.Pass.{placed, fits, inside}
-use Rattle.filter.specs.Window.{clamp}
+use Rattle.operator.specs.Pass.{placed, fits, inside}
+use Rattle.operator.specs.Window.{clamp}
 use Rattle.seq.proofs.Lists.{and-left, and-right, and-intro}
 use Rattle.table.specs.Mask.{across, down}
 

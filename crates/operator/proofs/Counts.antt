@@ -19,9 +19,9 @@ use lib.Dec.{eqb}
 use lib.ListN.{length, getD}
 use lib.Seq.{ext-getD}
 use borrow.Author.Tests.{eqb-true, eq-eqb, not-false}
-use Rattle.filter.specs.Image.{IsImage, black, added, removed, differsAt, differs}
-use Rattle.filter.specs.Pass.{passes}
-use Rattle.filter.specs.Counts.{stepAdded, stepRemoved, AllCounts}
+use Rattle.operator.specs.Image.{IsImage, black, added, removed, differsAt, differs}
+use Rattle.operator.specs.Pass.{passes}
+use Rattle.operator.specs.Counts.{stepAdded, stepRemoved, AllCounts}
 use Rattle.morph.specs.Operator as operator
 use Rattle.morph.specs.Bound.{differing, total}
 use Rattle.morph.specs.System.{Image}
@@ -34,9 +34,9 @@ use Rattle.seq.proofs.Tab.{tab-getD, upTo-intro, upTo-elim, length-upTo}
 use Rattle.table.specs.declared.Table.{Table}
 use Rattle.table.specs.Record.{recordVerdict}
 use Rattle.verdict.specs.declared.Verdict.the-variants.{Accepted}
-use Rattle.filter.proofs.Image.{blackOf, Shows, image-shows, differs-shows}
-use Rattle.filter.proofs.Operator.{passes-shows, pass-image, passes-image}
-use Rattle.filter.proofs.System.{system, lawful}
+use Rattle.operator.proofs.Image.{blackOf, Shows, image-shows, differs-shows}
+use Rattle.operator.proofs.Operator.{passes-shows, pass-image, passes-image}
+use Rattle.operator.proofs.System.{system, lawful}
 
 pub differs-equal : (a b : List ℕ) → length a ≡ length b → differs a b ≡ false → a ≡ b
 unfolding differs

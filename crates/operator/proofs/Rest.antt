@@ -8,20 +8,20 @@ use mathlib.Core.Path.{_≡_, refl, sym, ap, _∙_}
 use Prim.Native.Nat.{ℕ, _+_, _*_, _≤_}
 use native.Mathlib.Decide.{le-ind}
 use native.Mathlib.Omega.{arith}
-use Rattle.filter.specs.Image.{IsImage}
-use Rattle.filter.specs.Pass.{pass, passes, Stable}
-use Rattle.filter.specs.Rest.{rested, AllRest}
+use Rattle.operator.specs.Image.{IsImage}
+use Rattle.operator.specs.Pass.{pass, passes, Stable}
+use Rattle.operator.specs.Rest.{rested, AllRest}
 use Rattle.morph.specs.Rest as sites
 use Rattle.morph.proofs.Rest.{rest}
 use Rattle.seq.proofs.Tab.{length-upTo}
 use Rattle.table.specs.declared.Table.{Table}
 use Rattle.table.specs.Record.{recordVerdict}
 use Rattle.verdict.specs.declared.Verdict.the-variants.{Accepted}
-use Rattle.filter.proofs.Exchange.{exchange-passes}
-use Rattle.filter.proofs.Image.{blackOf, image-shows, shows-equal}
-use Rattle.filter.proofs.Order.{order-passes}
-use Rattle.filter.proofs.Operator.{pass-shows, passes-shows}
-use Rattle.filter.proofs.System.{lawful, listed}
+use Rattle.operator.proofs.Exchange.{exchange-passes}
+use Rattle.operator.proofs.Image.{blackOf, image-shows, shows-equal}
+use Rattle.operator.proofs.Order.{order-passes}
+use Rattle.operator.proofs.Operator.{pass-shows, passes-shows}
+use Rattle.operator.proofs.System.{lawful, listed}
 
 module _ (t : Table) (w h : ℕ) where
   -- by induction on the passes after it

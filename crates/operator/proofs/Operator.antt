@@ -13,8 +13,8 @@ use Prim.Native.Nat.{ℕ, zero, suc, _+_, _-_, _*_, _≤_, _<_}
 use native.Mathlib.Omega.{arith}
 use lib.Dec.{ltb, eqb}
 use borrow.Author.Tests.{ltb-true, ltb-false}
-use Rattle.filter.specs.Image.{pixel, IsImage}
-use Rattle.filter.specs.Pass.{placed, inside, solid, opened, held, passAt, pass, passes}
+use Rattle.operator.specs.Image.{pixel, IsImage}
+use Rattle.operator.specs.Pass.{placed, inside, solid, opened, held, passAt, pass, passes}
 use Rattle.morph.specs.Operator as operator
 use Rattle.morph.specs.System.{Image}
 use Rattle.morph.proofs.Operator.{next-cases}
@@ -25,11 +25,11 @@ use Rattle.seq.proofs.Tab.{upTo-elim}
 use Rattle.table.specs.declared.Table.{Table}
 use Rattle.table.specs.Mask.{across, down, positions}
 use Rattle.table.specs.Record.{masks, persistents}
-use Rattle.filter.proofs.Image.{one-not, blackOf, outside-white, Shows, image-shows, shows-image}
-use Rattle.filter.proofs.Image.{shows-black, shows-pixel, shows-value, shows-pixels}
-use Rattle.filter.proofs.Placed.{clamp-below, inside-elim}
-use Rattle.filter.proofs.System.{system, hits-at, blocks-at, listed}
-use Rattle.filter.proofs.Translates.{siteAt, elementsAt, movedAt, translate, translates, blocksAt}
+use Rattle.operator.proofs.Image.{one-not, blackOf, outside-white, Shows, image-shows, shows-image}
+use Rattle.operator.proofs.Image.{shows-black, shows-pixel, shows-value, shows-pixels}
+use Rattle.operator.proofs.Placed.{clamp-below, inside-elim}
+use Rattle.operator.proofs.System.{system, hits-at, blocks-at, listed}
+use Rattle.operator.proofs.Translates.{siteAt, elementsAt, movedAt, translate, translates, blocksAt}
 
 -- some translate passes p throughout: some position of K, all of whose translate lies inside and passes p
 translates-any : (w h r c K : ℕ) (p : ℕ → Bool)

@@ -4,12 +4,12 @@
 -- Assumes nothing.
 use mathlib.Core.List.{List}
 use Prim.Native.Nat.{ℕ}
-use Rattle.filter.specs.Image.{IsImage, exchange}
-use Rattle.filter.specs.Exchange.{Exchange}
+use Rattle.operator.specs.Image.{IsImage, exchange}
+use Rattle.operator.specs.Exchange.{Exchange}
 use Rattle.morph.proofs.Exchange as sites
-use Rattle.filter.proofs.Image.{blackOf, image-shows, shows-image, shows-equal, shows-exchange}
-use Rattle.filter.proofs.Operator.{passes-shows}
-use Rattle.filter.proofs.System.{system}
+use Rattle.operator.proofs.Image.{blackOf, image-shows, shows-image, shows-equal, shows-exchange}
+use Rattle.operator.proofs.Operator.{passes-shows}
+use Rattle.operator.proofs.System.{system}
 
 pub exchange-image : {w h : ℕ} {img : List ℕ} → IsImage w h img → IsImage w h (exchange img)
 exchange-image m = shows-image (m .wide) (m .high) (shows-exchange (image-shows m))

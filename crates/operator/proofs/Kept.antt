@@ -10,8 +10,8 @@ use Prim.Native.Nat.{ℕ, _+_, _-_, _*_, _≤_, _<_}
 use native.Mathlib.Omega.{arith}
 use borrow.Author.Tests.{eqb-true}
 use lib.Dec.{eqb}
-use Rattle.filter.specs.Image.{pixel, IsImage}
-use Rattle.filter.specs.Pass.{placed, inside, solid, opened, held}
+use Rattle.operator.specs.Image.{pixel, IsImage}
+use Rattle.operator.specs.Pass.{placed, inside, solid, opened, held}
 use Rattle.morph.proofs.Operator as sites
 use Rattle.seq.specs.Lists.{one, any}
 use Rattle.seq.proofs.Lists.{not-true-false, any-elim, all-elim, and-right}
@@ -19,9 +19,9 @@ use Rattle.table.specs.declared.Table.{Table}
 use Rattle.table.specs.Mask.{across, down, positions}
 use Rattle.table.specs.Record.{persistents, recordVerdict}
 use Rattle.verdict.specs.declared.Verdict.the-variants.{Accepted}
-use Rattle.filter.proofs.Image.{one-not, value-one, blackOf, image-shows}
-use Rattle.filter.proofs.Operator.{opened-shows, held-shows}
-use Rattle.filter.proofs.System.{lawful}
+use Rattle.operator.proofs.Image.{one-not, value-one, blackOf, image-shows}
+use Rattle.operator.proofs.Operator.{opened-shows, held-shows}
+use Rattle.operator.proofs.System.{lawful}
 
 not-self : (b : Bool) → b ≡ not b → ⊥
 not-self true e = true≢false e

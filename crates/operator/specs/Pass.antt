@@ -11,8 +11,8 @@ use mathlib.Core.List.{List}
 use mathlib.Core.Path.{_≡_}
 use Prim.Native.Nat.{ℕ, zero, suc, _+_, _-_, _*_, _/_, _%_}
 use lib.Dec.{leb, ltb, eqb}
-use Rattle.filter.specs.Image.{pixel}
-use Rattle.filter.specs.Window.{siteRow, siteCol}
+use Rattle.operator.specs.Image.{pixel}
+use Rattle.operator.specs.Window.{siteRow, siteCol}
 use Rattle.seq.specs.Lists.{any, all}
 use Rattle.seq.specs.Tab.{tab}
 use Rattle.table.specs.declared.Table.{Table}

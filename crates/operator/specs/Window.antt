@@ -14,7 +14,7 @@
 use mathlib.Core.List.{List, []}
 use Prim.Native.Nat.{ℕ, _+_, _-_, min}
 use lib.ListN.{getD}
-use Rattle.filter.specs.Image.{pixel}
+use Rattle.operator.specs.Image.{pixel}
 use Rattle.seq.specs.Tab.{tab}
 use Rattle.table.specs.Mask.{across, down}
 

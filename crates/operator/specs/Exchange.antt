@@ -3,8 +3,8 @@
 use mathlib.Core.List.{List}
 use mathlib.Core.Path.{_≡_}
 use Prim.Native.Nat.{ℕ}
-use Rattle.filter.specs.Image.{IsImage, exchange}
-use Rattle.filter.specs.Pass.{passes}
+use Rattle.operator.specs.Image.{IsImage, exchange}
+use Rattle.operator.specs.Pass.{passes}
 use Rattle.table.specs.declared.Table.{Table}
 use Rattle.table.specs.Record.{recordVerdict}
 use Rattle.verdict.specs.declared.Verdict.the-variants.{Accepted}

@@ -20,7 +20,7 @@ use lib.Dec.{leb, ltb, eqb}
 use lib.ListN.{length, getD, length-map, List·getD-eq-default}
 use lib.Seq.{ext-getD}
 use borrow.Author.Tests.{leb-true, ltb-true, ltb-false, le-leb}
-use Rattle.filter.specs.Image.{pixel, IsImage, differsAt, exchange}
+use Rattle.operator.specs.Image.{pixel, IsImage, differsAt, exchange}
 use Rattle.morph.specs.System.{Image}
 use Rattle.morph.specs.Exchange.{complement}
 use Rattle.seq.specs.Lists.{all, one, same}

@@ -6,15 +6,15 @@ use mathlib.Core.Bool.{true}
 use mathlib.Core.List.{List}
 use mathlib.Core.Path.{_≡_, sym, _∙_}
 use Prim.Native.Nat.{ℕ, suc}
-use Rattle.filter.specs.Image.{IsImage, differsAt}
-use Rattle.filter.specs.Pass.{passes}
-use Rattle.filter.specs.SingleChange.{SingleChange}
+use Rattle.operator.specs.Image.{IsImage, differsAt}
+use Rattle.operator.specs.Pass.{passes}
+use Rattle.operator.specs.SingleChange.{SingleChange}
 use Rattle.morph.specs.Operator.{changes}
 use Rattle.morph.proofs.SingleChange as sites
 use Rattle.table.specs.declared.Table.{Table}
-use Rattle.filter.proofs.Image.{blackOf, image-shows, differs-shows, differs-inside}
-use Rattle.filter.proofs.Operator.{passes-shows}
-use Rattle.filter.proofs.System.{system, lawful}
+use Rattle.operator.proofs.Image.{blackOf, image-shows, differs-shows, differs-inside}
+use Rattle.operator.proofs.Operator.{passes-shows}
+use Rattle.operator.proofs.System.{system, lawful}
 
 changed : (t : Table) (w h : ℕ) (img : List ℕ) → IsImage w h img → (k n : ℕ)
     → differsAt (passes t w h n img) (passes t w h (suc n) img) k ≡ true → changes (system t w h) (blackOf img) n k ≡ true

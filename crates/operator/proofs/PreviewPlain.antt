@@ -22,13 +22,12 @@ use Rattle.seq.proofs.Lists.{and-left, and-right, any-ext, all-ext, all-elim}
 use Rattle.seq.proofs.Tab.{tab-ext, upTo-intro}
 use Rattle.table.specs.Mask.{centre, positions}
 use Rattle.table.specs.Record.{masks}
-use Rattle.filter.specs.Image.{pixel, IsImage}
-use Rattle.filter.specs.Plain.{opposed, plainAt, plain}
-use Rattle.filter.specs.Preview.{fromBits, pattern, fiveOrMore, preview, chosen, medianElements, medianTable, Preview}
-use Rattle.filter.specs.Window.{siteRow, siteCol, window, windowAt}
-use Rattle.filter.proofs.ElementsLaws.{bits-tab}
-use Rattle.filter.proofs.PreviewLaws.{pattern-lt}
-use Rattle.filter.proofs.WindowLaws.{window-at, binary-at}
+use Rattle.operator.specs.Image.{pixel, IsImage}
+use Rattle.operator.specs.Plain.{opposed, plainAt, plain}
+use Rattle.operator.specs.Preview.{fromBits, pattern, fiveOrMore, preview, chosen, medianElements, medianTable, Preview}
+use Rattle.operator.specs.Window.{siteRow, siteCol, window, windowAt}
+use Rattle.operator.proofs.Pattern.{bits-tab, pattern-lt}
+use Rattle.operator.proofs.Window.{window-at, binary-at}
 
 -- the bit of a pattern that stands for position n, and the position of bit k
 abbrev spot : ℕ → ℕ

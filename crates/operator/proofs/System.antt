@@ -22,8 +22,8 @@ use Rattle.seq.proofs.Tab.{upTo-intro}
 use Rattle.table.specs.declared.Table.{Table}
 use Rattle.table.specs.Record.{recordVerdict}
 use Rattle.verdict.specs.declared.Verdict.the-variants.{Accepted}
-use Rattle.filter.proofs.Translates.{elementsAt, blocksAt, elements-meet}
-use Rattle.filter.proofs.Translates.{Block, block-elim, block-intro, block-contains, block-moved, block-meets}
+use Rattle.operator.proofs.Translates.{elementsAt, blocksAt, elements-meet}
+use Rattle.operator.proofs.Translates.{Block, block-elim, block-intro, block-contains, block-moved, block-meets}
 
 unfoldable pub pixelwise : ℕ → ℕ → (ℕ → ℕ → List (List ℕ)) → ℕ → List (List ℕ)
 pixelwise w h f i = cond (ltb i (w * h)) (f (i / w) (i % w)) []

@@ -5,24 +5,19 @@
 --     preview w h img   the image of answers
 --     medianElements    the 56 five-point subsets of the eight neighbours
 --     Preview           it is the plain rule of those elements
---     previewVerdict w h px n, previewArea w h px area    the call: it refuses as the image writer does
 -- Assumes nothing.
 use mathlib.Core.List.{List, [], _∷_, _++_, map}
 use mathlib.Core.Path.{_≡_}
 use Prim.Native.Nat.{ℕ, _+_, _*_, _/_, _%_, _^_}
 use lib.Dec.{leb, eqb}
-use lib.ListN.{length, replicate}
-use Rattle.filter.specs.Image.{IsImage}
-use Rattle.filter.specs.Plain.{plain}
-use Rattle.filter.specs.Window.{window, windowAt}
-use Rattle.image.specs.File.{pixelVerdict, areaRule}
+use lib.ListN.{replicate}
+use Rattle.operator.specs.Image.{IsImage}
+use Rattle.operator.specs.Plain.{plain}
+use Rattle.operator.specs.Window.{window, windowAt}
 use Rattle.seq.specs.Bits.{bit}
 use Rattle.seq.specs.Lists.{one, keep, count}
 use Rattle.seq.specs.Tab.{tab, upTo}
 use Rattle.table.specs.declared.Table.{Table}
-use Rattle.verdict.specs.declared.Verdict.{Verdict}
-use Rattle.verdict.specs.Rules.{orElse}
-use Rattle.verdict.specs.Writer.{outputOf}
 
 abbrev pub square : List ℕ
 square = 6 ∷ 7 ∷ 8 ∷ 11 ∷ 12 ∷ 13 ∷ 16 ∷ 17 ∷ 18 ∷ []
@@ -58,9 +53,3 @@ medianTable = record { count = 56; elements = medianElements ++ replicate 8 0; p
 
 abbrev pub Preview : Type 0
 Preview = (w h : ℕ) (img : List ℕ) → IsImage w h img → preview w h img ≡ plain medianTable w h img
-
-unfoldable pub previewVerdict : ℕ → ℕ → List ℕ → ℕ → Verdict
-previewVerdict w h px n = orElse (pixelVerdict w h px) (areaRule w h n)
-
-unfoldable pub previewArea : ℕ → ℕ → List ℕ → List ℕ → List ℕ
-previewArea w h px area = outputOf (previewVerdict w h px (length area)) (preview w h px) area

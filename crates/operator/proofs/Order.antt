@@ -12,16 +12,16 @@ use native.Mathlib.Omega.{arith}
 use lib.Dec.{ltb}
 use lib.ListN.{length, getD, List·getD-eq-default}
 use borrow.Author.Tests.{ltb-true, ltb-false}
-use Rattle.filter.specs.Image.{IsImage, Covered}
-use Rattle.filter.specs.Order.{Order}
+use Rattle.operator.specs.Image.{IsImage, Covered}
+use Rattle.operator.specs.Order.{Order}
 use Rattle.morph.specs.System.{Image}
 use Rattle.morph.specs.Order.{Below}
 use Rattle.morph.proofs.Order as sites
 use Rattle.seq.specs.Lists.{one}
 use Rattle.seq.proofs.Lists.{either}
-use Rattle.filter.proofs.Image.{blackOf, Shows, binary-value, image-shows}
-use Rattle.filter.proofs.Operator.{passes-shows}
-use Rattle.filter.proofs.System.{lawful}
+use Rattle.operator.proofs.Image.{blackOf, Shows, binary-value, image-shows}
+use Rattle.operator.proofs.Operator.{passes-shows}
+use Rattle.operator.proofs.System.{lawful}
 
 one-mono : (x y : Bool) → one x ≤ one y → x ≡ true → y ≡ true
 one-mono x true l e = refl

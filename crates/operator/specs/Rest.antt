@@ -5,8 +5,8 @@
 use mathlib.Core.List.{List}
 use mathlib.Core.Path.{_≡_}
 use Prim.Native.Nat.{ℕ, _*_, _≤_}
-use Rattle.filter.specs.Image.{IsImage, exchange, Covered}
-use Rattle.filter.specs.Pass.{passes, Stable}
+use Rattle.operator.specs.Image.{IsImage, exchange, Covered}
+use Rattle.operator.specs.Pass.{passes, Stable}
 use Rattle.table.specs.declared.Table.{Table}
 use Rattle.table.specs.Record.{recordVerdict}
 use Rattle.verdict.specs.declared.Verdict.the-variants.{Accepted}

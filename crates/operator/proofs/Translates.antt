@@ -16,8 +16,8 @@ use mathlib.Core.List.{List, map, List·Memᴰ, Memᴰ·cast}
 use mathlib.Core.Path.{_≡_, sym, ap₂, _∙_, subst}
 use Prim.Native.Nat.{ℕ, _+_, _*_, _<_}
 use native.Mathlib.Nat.{add-sub-cancel}
-use Rattle.filter.specs.Pass.{placed, inside}
-use Rattle.filter.specs.Window.{siteRow, siteCol}
+use Rattle.operator.specs.Pass.{placed, inside}
+use Rattle.operator.specs.Window.{siteRow, siteCol}
 use Rattle.seq.specs.Lists.{all, keep, join}
 use Rattle.seq.proofs.Lists.{all-intro, all-elim, keep-intro, keep-elim, map-intro, map-elim, join-intro, join-elim}
 use Rattle.seq.proofs.Members.{map-ext}
@@ -25,9 +25,9 @@ use Rattle.table.specs.declared.Table.{Table}
 use Rattle.table.specs.Mask.{across, down, positions}
 use Rattle.table.specs.Record.{masks, persistents, recordVerdict}
 use Rattle.verdict.specs.declared.Verdict.the-variants.{Accepted}
-use Rattle.filter.proofs.Accepted.{masks-meet, masks-persist}
-use Rattle.filter.proofs.Masks.{sum-down, sum-across}
-use Rattle.filter.proofs.Placed.{placed-again, fits-again, clamp-placed, Within, inside-elim, inside-intro}
+use Rattle.table.proofs.Facts.{accepted-table}
+use Rattle.table.proofs.Masks.{sum-down, sum-across}
+use Rattle.operator.proofs.Placed.{placed-again, fits-again, clamp-placed, Within, inside-elim, inside-intro}
 
 abbrev pub siteAt : ℕ → ℕ → ℕ → ℕ → ℕ → ℕ
 siteAt w h r c n = siteRow h r n * w + siteCol w c n
@@ -89,7 +89,7 @@ pub elements-meet : (t : Table) (w h r c : ℕ) → recordVerdict t ≡ Accepted
 elements-meet t w h r c ok A B m n =
     let (e, k, left) = element-sites t w h r c A m in
     let (f, l, right) = element-sites t w h r c B n in
-    let (a, x, y) = masks-meet t ok e f k l in
+    let (a, x, y) = accepted-table t ok .masks-meet e f k l in
     (siteAt w h r c a, left a x, right a y)
 
 module _ {t : Table} {w h r c : ℕ} {T : List ℕ} (B : Block t w h r c T) where
@@ -145,7 +145,7 @@ module _ {t : Table} {w h r c : ℕ} {T : List ℕ} (B : Block t w h r c T) wher
   unfolding translate
   block-meets ok A m =
       let (e, k, site) = element-sites t w h r c A m in
-      let (a, x, i, y) = masks-persist t ok (B .K) e (B .b) (B .persistent) k (B .position) in
+      let (a, x, i, y) = accepted-table t ok .masks-persist (B .K) e (B .b) (B .persistent) k (B .position) in
       let j = B .whole _ y in
       let p = clamp-placed (down a) (j .rows) (sum-down (B .b) a i) in
       let q = clamp-placed (across a) (j .columns) (sum-across (B .b) a i) in

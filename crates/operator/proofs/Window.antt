@@ -22,8 +22,8 @@ use Rattle.seq.proofs.Rows.{Rowed, rowed-all}
 use Rattle.seq.proofs.Tab.{length-tab, getD-tab}
 use Rattle.table.specs.Mask.{across, down}
 use Rattle.verdict.specs.Writer.{over}
-use Rattle.filter.specs.Image.{pixel}
-use Rattle.filter.specs.Window.{clamp, siteRow, siteCol, window, windowAt}
+use Rattle.operator.specs.Image.{pixel}
+use Rattle.operator.specs.Window.{clamp, siteRow, siteCol, window, windowAt}
 
 pub side-le : {w c : ℕ} (h : ℕ) → c < w → h ≤ w * h
 side-le {w} h p = let q : 0 < w = omega arith in omega (arith, le-mul-of-pos-right h q, mul-comm h w)

@@ -7,8 +7,8 @@
 use mathlib.Core.List.{List}
 use mathlib.Core.Path.{_≡_}
 use Prim.Native.Nat.{ℕ, suc, _+_, _*_, _≤_}
-use Rattle.filter.specs.Image.{IsImage, black, added, removed, differs}
-use Rattle.filter.specs.Pass.{pass, passes}
+use Rattle.operator.specs.Image.{IsImage, black, added, removed, differs}
+use Rattle.operator.specs.Pass.{pass, passes}
 use Rattle.morph.specs.Bound.{total}
 use Rattle.seq.specs.Lists.{count}
 use Rattle.seq.specs.Tab.{upTo}

@@ -6,9 +6,9 @@ use mathlib.Core.List.{List, [], _∷_, _++_}
 use mathlib.Core.Path.{_≡_, refl}
 use Prim.Native.Nat.{ℕ, _+_, _-_, _/_, _%_}
 use lib.ListN.{replicate}
-use Rattle.filter.specs.Heijmans.{psiAt, psi, alpha, beta, modified}
-use Rattle.filter.specs.Image.{exchange}
-use Rattle.filter.specs.Pass.{inside, solid, opened, held, passAt, pass}
+use Rattle.operator.specs.Heijmans.{psiAt, psi, alpha, beta, modified}
+use Rattle.operator.specs.Image.{exchange}
+use Rattle.operator.specs.Pass.{inside, solid, opened, held, passAt, pass}
 use Rattle.seq.specs.Bits.{bit, bitsOf}
 use Rattle.seq.specs.Lists.{all, sameList}
 use Rattle.seq.specs.Tab.{tab, upTo}

@@ -10,11 +10,11 @@ use mathlib.Core.List.{List}
 use mathlib.Core.Path.{_≡_, refl, sym, ap, ap₂, _∙_}
 use Prim.Native.Nat.{ℕ, _+_, _*_, _<_, min, max}
 use lib.Dec.{eqb}
-use Rattle.filter.specs.Image.{pixel}
-use Rattle.filter.specs.Heijmans.{blackAt, psiAt, psi, alpha, beta, modified, AllHeijmans}
-use Rattle.filter.specs.Pass.{opened}
-use Rattle.filter.specs.Plain.{opposed, plainAt, plain}
-use Rattle.filter.specs.Window.{siteRow, siteCol}
+use Rattle.operator.specs.Image.{pixel}
+use Rattle.operator.specs.Heijmans.{blackAt, psiAt, psi, alpha, beta, modified, AllHeijmans}
+use Rattle.operator.specs.Pass.{opened}
+use Rattle.operator.specs.Plain.{opposed, plainAt, plain}
+use Rattle.operator.specs.Window.{siteRow, siteCol}
 use Rattle.morph.specs.Heijmans as sites
 use Rattle.morph.specs.Operator as operator
 use Rattle.morph.specs.System.{System, Image}
@@ -24,12 +24,12 @@ use Rattle.seq.proofs.Lists.{any-ext, all-ext}
 use Rattle.table.specs.declared.Table.{Table}
 use Rattle.table.specs.Mask.{across, down, positions}
 use Rattle.table.specs.Record.{masks}
-use Rattle.filter.proofs.Image.{same-black, blackOf, Shows, image-shows, shows-equal}
-use Rattle.filter.proofs.Image.{shows-pixel, shows-value, shows-tab, shows-pixels, shows-exchange}
-use Rattle.filter.proofs.Operator.{hits-any, hits-all, opened-shows, turned-one, pass-shows}
-use Rattle.filter.proofs.Placed.{clamp-below}
-use Rattle.filter.proofs.System.{system, lawful}
-use Rattle.filter.proofs.Translates.{siteAt}
+use Rattle.operator.proofs.Image.{same-black, blackOf, Shows, image-shows, shows-equal}
+use Rattle.operator.proofs.Image.{shows-pixel, shows-value, shows-tab, shows-pixels, shows-exchange}
+use Rattle.operator.proofs.Operator.{hits-any, hits-all, opened-shows, turned-one, pass-shows}
+use Rattle.operator.proofs.Placed.{clamp-below}
+use Rattle.operator.proofs.System.{system, lawful}
+use Rattle.operator.proofs.Translates.{siteAt}
 
 formula-one : (x y z : Bool) → max (min (one x) (one y)) (one z) ≡ one ((x && y) || z)
 formula-one true true true = refl

@@ -5,8 +5,8 @@ use mathlib.Core.Bool.{Bool, cond}
 use mathlib.Core.List.{List}
 use Prim.Native.Nat.{ℕ, _-_, _*_, _/_, _%_}
 use lib.Dec.{eqb}
-use Rattle.filter.specs.Image.{pixel}
-use Rattle.filter.specs.Window.{siteRow, siteCol}
+use Rattle.operator.specs.Image.{pixel}
+use Rattle.operator.specs.Window.{siteRow, siteCol}
 use Rattle.seq.specs.Lists.{any, all}
 use Rattle.seq.specs.Tab.{tab}
 use Rattle.table.specs.declared.Table.{Table}

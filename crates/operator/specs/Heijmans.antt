@@ -10,10 +10,10 @@ use mathlib.Core.Path.{_≡_}
 use Prim.Native.Nat.{ℕ, _*_, _/_, _%_, min, max}
 use lib.Dec.{eqb}
 use lib.ListN.{getD}
-use Rattle.filter.specs.Image.{pixel, IsImage, exchange}
-use Rattle.filter.specs.Pass.{opened, pass}
-use Rattle.filter.specs.Plain.{plain}
-use Rattle.filter.specs.Window.{siteRow, siteCol}
+use Rattle.operator.specs.Image.{pixel, IsImage, exchange}
+use Rattle.operator.specs.Pass.{opened, pass}
+use Rattle.operator.specs.Plain.{plain}
+use Rattle.operator.specs.Window.{siteRow, siteCol}
 use Rattle.seq.specs.Lists.{one, any, all}
 use Rattle.seq.specs.Tab.{tab}
 use Rattle.table.specs.declared.Table.{Table}

@@ -1,0 +1,15 @@
+pub mod Placed
+pub mod Translates
+pub mod System
+pub mod Image
+pub mod Operator
+pub mod SingleChange
+pub mod Counts
+pub mod Exchange
+pub mod Order
+pub mod Rest
+pub mod Heijmans
+pub mod Kept
+pub mod Window
+pub mod Pattern
+pub mod PreviewPlain

@@ -1,0 +1,12 @@
+pub mod Image
+pub mod Window
+pub mod Pass
+pub mod Plain
+pub mod Preview
+pub mod SingleChange
+pub mod Counts
+pub mod Exchange
+pub mod Order
+pub mod Rest
+pub mod Heijmans
+pub mod Cases
