@@ -1,3 +1,4 @@
+pub mod Answers
 pub mod Files
 pub mod Images
 pub mod Demand1

@@ -1,3 +1,4 @@
+pub mod Answers
 pub mod Applied
 pub mod Previewed
 pub mod OpeningMap
