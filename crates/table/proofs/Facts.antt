@@ -1,5 +1,5 @@
 -- What an accepted table gives, as other crates use it.
---     AcceptedTable t      the facts: count, elements by their places, the persistent element, and rules 5 and 7 by positions
+--     AcceptedTable t      the facts, rule by rule; rules 5 and 7 by positions
 --     accepted-table       they hold of every record that the check accepts
 -- Assumes nothing.
 use mathlib.Core.Bool.{true, false, not}
@@ -32,8 +32,8 @@ pub record AcceptedTable (t : Table) : Type 0 where
   pub count-least : 1 ≤ t .count
   pub count-most : t .count ≤ maxElements
   -- rule 4
-  pub element-valid : (k : ℕ) → k < t .count → validMask (element t k) ≡ true
-  pub centre-free : (k : ℕ) → k < t .count → bit (element t k) centre ≡ false
+  pub masks-valid : (e : ℕ) → List·Memᴰ e (masks t) → validMask e ≡ true
+  pub off-centre : (e : ℕ) → List·Memᴰ e (masks t) → bit e centre ≡ false
   pub rising : (k : ℕ) → suc k < t .count → element t k < element t (suc k)
   pub past-zero : (k : ℕ) → t .count ≤ k → k < maxElements → element t k ≡ 0
   -- rule 6
@@ -44,6 +44,10 @@ pub record AcceptedTable (t : Table) : Type 0 where
   -- rule 7: a position of a persistent element has a partner in each element
   pub masks-persist : (K e b : ℕ) → List·Memᴰ K (persistents t) → List·Memᴰ e (masks t) → List·Memᴰ b (positions K)
       → (a : ℕ) × List·Memᴰ a (positions e) × (sumInside b a ≡ true) × List·Memᴰ (sum b a) (positions K)
+
+-- two masks share a position
+abbrev Shared : ℕ → ℕ → Type 0
+Shared e f = (n : ℕ) × List·Memᴰ n (positions e) × List·Memᴰ n (positions f)
 
 module _ (t : Table) (s : Sound t) where
   most : t .count ≤ maxElements
@@ -59,9 +63,9 @@ module _ (t : Table) (s : Sound t) where
   valid : (k : ℕ) → k < t .count → validMask (element t k) ≡ true
   valid k l = good-valid t k (good-element k l)
 
-  off-centre : (k : ℕ) → k < t .count → bit (element t k) centre ≡ false
+  no-centre : (k : ℕ) → k < t .count → bit (element t k) centre ≡ false
   unfolding badElement
-  off-centre k l = or-none-left (bit (element t k) centre) _ (or-none-right (not (validMask (element t k))) _ (good-element k l))
+  no-centre k l = or-none-left (bit (element t k) centre) _ (or-none-right (not (validMask (element t k))) _ (good-element k l))
 
   rises : (k : ℕ) → suc k < t .count → element t k < element t (suc k)
   unfolding badAfter
@@ -90,39 +94,36 @@ module _ (t : Table) (s : Sound t) where
       let none = refuseAt-accepted (first (missing t) (t .count)) 7 suc (orElse-right (meetRule t) (persistRule t) (s .related)) in
       not-false _ (any-false _ (first-nothing (missing t) (t .count) none k l) m)
 
-  abbrev Shared : ℕ → ℕ → Type 0
-  Shared k j = (n : ℕ) × List·Memᴰ n (positions (element t k)) × List·Memᴰ n (positions (element t j))
-
   -- any two elements, by their places: the later meets the earlier, and an element has a position
-  places-meet : (k j : ℕ) → k < t .count → j < t .count → Shared k j
+  places-meet : (k j : ℕ) → k < t .count → j < t .count → Shared (element t k) (element t j)
   places-meet k j l i = ⊎-elim earlier (λ a. ⊎-elim later (λ b. here (omega arith)) (lt-or-le k j)) (lt-or-le j k)
     where
-      earlier : j < k → Shared k j
+      earlier : j < k → Shared (element t k) (element t j)
       earlier a = meets-shared _ _ (meet-at j k a l)
 
-      later : k < j → Shared k j
+      later : k < j → Shared (element t k) (element t j)
       later b = let (n, x, y) = meets-shared _ _ (meet-at k j b i) in (n, y, x)
 
-      here : k ≡ j → Shared k j
-      here e = let (n, x) = valid-position _ (valid k l) in subst (Shared k) e (n, x, x)
+      here : k ≡ j → Shared (element t k) (element t j)
+      here e = let (n, x) = valid-position _ (valid k l) in subst (λ (i : ℕ). Shared (element t k) (element t i)) e (n, x, x)
+
+-- what holds at every place below the count holds of every element
+at-masks : (t : Table) (P : ℕ → Type 0) → ((k : ℕ) → k < t .count → P (element t k)) → (e : ℕ) → List·Memᴰ e (masks t) → P e
+unfolding masks
+at-masks t P h e m = let (k, l, q) = take-place (t .count) (t .elements) 0 m in subst P (sym q) (h k l)
 
 pub accepted-table : (t : Table) → recordVerdict t ≡ Accepted → AcceptedTable t
-unfolding badNumber masks
+unfolding badNumber
 accepted-table t ok = record {
   count-least = between 1 (t .count) maxElements (not-false _ (s .counted)) .0;
   count-most = most t s;
-  element-valid = valid t s;
-  centre-free = off-centre t s;
+  masks-valid = at-masks t (λ e. validMask e ≡ true) (valid t s);
+  off-centre = at-masks t (λ e. bit e centre ≡ false) (no-centre t s);
   rising = rises t s;
   past-zero = past t s;
   persistent-valid = not-false _ (s .valid);
-  masks-meet = λ e f m n.
-      let (k, l, p) = take-place (t .count) (t .elements) 0 m in
-      let (j, i, q) = take-place (t .count) (t .elements) 0 n in
-      rw (p, q) (places-meet t s k j l i);
-  masks-persist = λ K e b k m n.
-      let (j, l, p) = take-place (t .count) (t .elements) 0 m in
-      persistent-partner K e b (rw p (persist-at t s j l K k)) n;
+  masks-meet = λ e f m n. at-masks t (λ x. Shared x f) (λ k l. at-masks t (Shared (element t k)) (λ j i. places-meet t s k j l i) f n) e m;
+  masks-persist = λ K e b k m n. persistent-partner K e b (at-masks t (λ x. persistentFor K x ≡ true) (λ j l. persist-at t s j l K k) e m) n;
 }
   where
     s : Sound t
