@@ -4,12 +4,12 @@ use mathlib.Core.Bool.{true, false}
 use mathlib.Core.List.{List, [], _∷_}
 use mathlib.Core.Logic.{_≢_}
 use mathlib.Core.Path.{_≡_}
-use Prim.Native.Nat.{ℕ, _*_, _≤_, _<_}
+use Prim.Native.Nat.{ℕ, _≤_, _<_}
 use lib.Dec.{ltb}
 use lib.ListN.{length, drop}
 use Rattle.history.proofs.Demand1.{demand-1}
 use Rattle.history.specs.declared.Passed.the-variants as passing
-use Rattle.history.specs.Call.{Call, load, pass, run, view, figures, collect, isLoad, isRun, isCollect, loaded, passed, shown, figured, collected, answerOf, stateOf, refusalOf}
+use Rattle.history.specs.Call.{Call, load, pass, run, view, figures, collect, isLoad, isRun, isCollect, passed, shown, figured, collected, answerOf, stateOf, refusalOf}
 use Rattle.history.specs.Collect as collecting
 use Rattle.history.specs.declared.Figured.the-variants as figuring
 use Rattle.history.specs.Demand1.{afterPasses, Cause, unsound, stopped, not-collected, nothing-loaded, not-at-rest, reach}

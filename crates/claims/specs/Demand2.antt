@@ -10,7 +10,7 @@ use Rattle.history.proofs.Demand2.{demand-2}
 use Rattle.history.specs.declared.Passed.the-variants.{Changed, Stable}
 use Rattle.history.specs.Call.{Call, pass, passed, answerOf, stateOf, refusalOf}
 use Rattle.history.specs.History.{Entry, holds}
-use Rattle.history.specs.Lists.{Course, start, play}
+use Rattle.history.specs.Lists.{start, play}
 use Rattle.history.specs.Sound.{Unsound}
 use Rattle.history.specs.State.{State}
 use Rattle.history.specs.View.{viewOf}

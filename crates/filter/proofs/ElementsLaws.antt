@@ -7,9 +7,8 @@
 -- Assumes nothing.
 use mathlib.Core.Bool.{Bool, true, false}
 use mathlib.Core.List.{List, [], List·Memᴰ}
-use mathlib.Core.Path.{_≡_, sym, ap, _∙_}
-use Prim.Native.Nat.{ℕ, zero, suc, _+_, _*_, _%_, _≤_, _<_}
-use native.Mathlib.Nat.{not-suc-le-zero, le-of-suc-le-suc, div-one}
+use mathlib.Core.Path.{_≡_, ap, _∙_}
+use Prim.Native.Nat.{ℕ, suc, _+_, _*_, _≤_, _<_}
 use native.Mathlib.Numerals.{add-one}
 use native.Mathlib.Omega.{arith}
 use borrow.Author.Tests.{ne-eqb}
@@ -20,8 +19,8 @@ use lib.Seq.{drop-cons}
 use Rattle.seq.specs.Bits.{bit}
 use Rattle.seq.specs.Lists.{any, all, one}
 use Rattle.seq.specs.Tab.{tab}
-use Rattle.seq.proofs.Bits.{bit-half, bit-one, bit-none, all-and}
-use Rattle.seq.proofs.Lists.{one-le, or-left, any-ext, any-none, all-elim}
+use Rattle.seq.proofs.Bits.{all-and}
+use Rattle.seq.proofs.Lists.{or-left, any-ext, any-none, all-elim}
 use Rattle.seq.proofs.Tests.{between}
 use Rattle.table.specs.Mask.{largestMask, positions, validMask}
 use Rattle.filter.specs.Elements.{matched}

@@ -3,19 +3,16 @@
 --     accepted-ranged            an accepted table is in range
 --     elements-part, map-part, map-length    elements and opening map, as parts of longer arrays
 -- Assumes nothing.
-use mathlib.Core.Bool.{Bool, true, false, _&&_, and-false}
-use mathlib.Core.List.{List, List·Memᴰ}
-use mathlib.Core.Path.{_≡_, refl, sym, ap, _∙_, subst}
-use Prim.Native.Nat.{ℕ, _+_, _*_, _≤_, _<_}
-use native.Mathlib.Numerals.{add-one}
-use native.Mathlib.Omega.{arith}
+use mathlib.Core.Bool.{Bool, true}
+use mathlib.Core.List.{List}
+use mathlib.Core.Path.{_≡_, ap, _∙_}
+use Prim.Native.Nat.{ℕ, _*_, _≤_}
 use borrow.Author.Tests.{leb-true, le-leb}
 use lib.Dec.{leb}
-use lib.ListN.{length, getD, take, drop}
-use lib.Seq.{drop-cons, take-at}
+use lib.ListN.{length, take}
+use lib.Seq.{take-at}
 use Rattle.seq.specs.Lists.{all}
 use Rattle.seq.proofs.Lists.{and-left, and-right, and-intro, all-intro}
-use Rattle.seq.proofs.Members.{take-place}
 use Rattle.seq.proofs.Tab.{length-tab}
 use Rattle.table.specs.declared.Table.{Table}
 use Rattle.table.specs.Mask.{validMask}
@@ -42,10 +39,7 @@ ranged-valid t e = and-right (leb (t .count) maxElements) (all validMask (masks 
 module _ (t : Table) (ok : recordVerdict t ≡ Accepted) where
   pub accepted-ranged : ranged t ≡ true
   unfolding ranged masks
-  accepted-ranged = and-intro (le-leb _ _ (accepted-table t ok .count-most)) (all-intro validMask (masks t) valid)
-    where
-      valid : (e : ℕ) → List·Memᴰ e (masks t) → validMask e ≡ true
-      valid e i = let (k, l, q) = take-place (t .count) (t .elements) 0 i in subst (λ (x : ℕ). validMask x ≡ true) (sym q) (accepted-table t ok .element-valid k l)
+  accepted-ranged = let facts = accepted-table t ok in and-intro (le-leb _ _ (facts .count-most)) (all-intro validMask (masks t) (facts .masks-valid))
 
 -- the elements, as a part of the element places
 pub elements-part : (t : Table) {es : List ℕ} → es ≡ t .elements → take (t .count) es ≡ masks t

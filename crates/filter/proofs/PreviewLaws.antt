@@ -10,7 +10,7 @@ use mathlib.Core.Path.{_≡_, refl, subst}
 use Prim.Native.Nat.{ℕ, _+_, _*_, _≤_, _<_}
 use native.Mathlib.Omega.{arith}
 use borrow.Author.Tests.{le-leb, le-ltb, lt-ltb}
-use lib.Dec.{leb, lit<}
+use lib.Dec.{leb}
 use lib.ListN.{length, getD}
 use Rattle.seq.specs.Lists.{all}
 use Rattle.seq.proofs.Members.{all-tab}
@@ -26,8 +26,7 @@ use Rattle.verdict.specs.Writer.{over}
 use Rattle.operator.specs.Image.{IsImage}
 use Rattle.operator.specs.Preview.{fromBits, pattern, fiveOrMore, preview}
 use Rattle.filter.specs.Previewed.{previewVerdict, previewArea}
-use Rattle.operator.specs.Window.{siteRow, siteCol, window, windowAt}
-use Rattle.operator.proofs.Window.{window-at, binary-at}
+use Rattle.operator.specs.Window.{window}
 
 -- the answer at a pixel
 abbrev pub medianAt : ℕ → ℕ → List ℕ → ℕ → ℕ → ℕ

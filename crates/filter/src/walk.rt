@@ -6,7 +6,7 @@ ghost use mathlib.Core.Bool.{true, false, cond, _&&_};
 ghost use mathlib.Core.Path.{_≡_};
 ghost use Prim.Native.Nat.{_+_, _-_, _*_, _≤_, _<_};
 ghost use lib.Dec.{eqb};
-ghost use lib.ListN.{length, getD};
+ghost use lib.ListN.{length};
 ghost use Rattle.filter.specs.Elements.{Shared};
 ghost use Rattle.operator.specs.Image.{pixel};
 ghost use Rattle.filter.specs.Walk.{Walkable, Opened, Copied, turns, walkedAt, walked, Tallied};

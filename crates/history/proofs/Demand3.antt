@@ -8,7 +8,7 @@ use Prim.Native.Nat.{ℕ}
 use lib.ListN.{replicate}
 use Rattle.history.specs.Call.{Call, pass}
 use Rattle.history.specs.Demand3.{AfterList, Demand3, played, lent}
-use Rattle.history.specs.Lists.{Course, start, play}
+use Rattle.history.specs.Lists.{start, play}
 use Rattle.history.proofs.After.{held, after-related}
 use Rattle.history.proofs.Lists.{played-related, played-lengths, play-append}
 use Rattle.history.proofs.Reload.{reloads}

@@ -4,9 +4,9 @@
 --     load-stays, pass-stays, run-stays     load, pass and run
 --     kept                 the claim, for every call
 -- Assumes nothing.
-use mathlib.Core.Bool.{Bool, true, false, _||_}
-use mathlib.Core.List.{List, [], _∷_}
-use mathlib.Core.Path.{_≡_, refl, sym, ap, ap₂, _∙_}
+use mathlib.Core.Bool.{true, _||_}
+use mathlib.Core.List.{List}
+use mathlib.Core.Path.{_≡_, refl, ap, ap₂, _∙_}
 use Prim.Native.Nat.{ℕ, zero, suc, _*_, _≤_}
 use native.Mathlib.Omega.{arith}
 use borrow.Author.Tests.{ltb-false}
@@ -19,27 +19,24 @@ use Rattle.history.specs.Collect.{collectVerdict, collectAs, collectStat
 use Rattle.history.specs.Demand1.{afterPasses, Goes, reach, Areas}
 use Rattle.history.specs.Lists.{lengthsOf}
 use Rattle.history.specs.Load.{loadRules, loadVerdict, loadAs, loadState}
-use Rattle.history.specs.Pass.{Outcome, nextImage, withNext, changedJob, stableJob, passOf}
+use Rattle.history.specs.Pass.{nextImage, withNext, changedJob, stableJob, passOf}
 use Rattle.history.specs.Run.{runOf}
 use Rattle.history.specs.Sound.{Ready}
-use Rattle.history.specs.State.{State, pixels, even, soundRule}
+use Rattle.history.specs.State.{State, pixels, even}
 use Rattle.history.proofs.Areas.{length-over}
 use Rattle.history.proofs.Passes as passes
 use Rattle.history.proofs.Passes.{Way, way, changed}
 use Rattle.history.proofs.Ready.{ready-next}
 use Rattle.history.proofs.Runs.{goes-next, ends}
-use Rattle.image.specs.File.{fileVerdict, pixelsOf}
+use Rattle.image.specs.File.{pixelsOf}
 use Rattle.image.specs.Header.{widthOf, heightOf}
 use Rattle.image.specs.RoundTrip.{imageOf}
 use Rattle.seq.proofs.Lists.{clash, either}
 use Rattle.seq.proofs.Tab.{length-tab}
-use Rattle.seq.proofs.Tests.{or-none-left, or-none-right}
+use Rattle.seq.proofs.Tests.{or-none-left}
 use Rattle.table.specs.declared.Table.{Table}
-use Rattle.table.specs.Record.{recordVerdict}
-use Rattle.verdict.specs.declared.Refusal.{Refusal}
 use Rattle.verdict.specs.declared.Verdict.{Verdict}
 use Rattle.verdict.specs.declared.Verdict.the-variants.{Accepted, Refused}
-use Rattle.verdict.specs.Rules.{refuseIf, judge}
 use Rattle.verdict.specs.Writer.{over}
 use Rattle.verdict.proofs.Rules.{judge-accepted, refuseIf-accepted}
 use mathlib.Core.List.{List·Memᴰ·head, List·Memᴰ·tail}

@@ -3,7 +3,7 @@
 --     callNumbers, call-numbers      what the history refuses by
 --     never-14                       the claim
 -- Assumes nothing.
-use mathlib.Core.Bool.{true, not, _||_}
+use mathlib.Core.Bool.{not, _||_}
 use mathlib.Core.List.{List, [], _∷_}
 use mathlib.Core.Logic.{_≢_}
 use mathlib.Core.Path.{_≡_, refl}

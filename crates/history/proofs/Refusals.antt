@@ -7,7 +7,6 @@ use mathlib.Core.Bool.{false}
 use mathlib.Core.List.{List}
 use mathlib.Core.Path.{_≡_, refl, sym, ap, _∙_}
 use Prim.Native.Nat.{ℕ}
-use native.Mathlib.Omega.{arith}
 use lib.ListN.{length}
 use Rattle.history.specs.declared.Passed.{Passed}
 use Rattle.history.specs.declared.Passed.the-variants as passing

@@ -6,15 +6,13 @@
 --     unaltered                          and a refused call alters nothing
 -- Assumes nothing.
 use mathlib.Core.Bool.{Bool, true, false}
-use mathlib.Core.List.{List}
-use mathlib.Core.Path.{_≡_, refl, sym, ap, ap₂, _∙_}
+use mathlib.Core.Path.{_≡_, refl, sym, ap, _∙_}
 use Prim.Native.Nat.{ℕ}
 use native.Mathlib.Omega.{arith}
-use lib.ListN.{length}
 use Rattle.history.specs.declared.Passed.the-variants as passing
 use Rattle.history.specs.Answered.{restIf, fileOf, figuresBy, answeredBy}
 use Rattle.history.specs.Call.{Call, load, pass, run, view, figures, collect, loaded, passed, shown, answerOf, stateOf, refusalOf}
-use Rattle.history.specs.Collect.{collected, collectVerdict, collectWritten, collectOutput}
+use Rattle.history.specs.Collect.{collectWritten, collectOutput}
 use Rattle.history.specs.History as book
 use Rattle.history.specs.History.{Entry, History, empty, holds, Lengths, refusedBy}
 use Rattle.history.specs.Lists.{lengthsOf}
@@ -32,7 +30,6 @@ use Rattle.history.proofs.Run as runs
 use Rattle.history.proofs.Run.{Begins, begins, run-answer, ran-settled}
 use Rattle.history.proofs.Runs.{run-refused}
 use Rattle.history.proofs.Sound.{ready-empty, ready-held}
-use Rattle.history.proofs.View.{view-held}
 use Rattle.verdict.specs.declared.Refusal.{Refusal}
 use Rattle.verdict.specs.declared.Verdict.the-variants.{Accepted, Refused}
 use Rattle.verdict.specs.Rules.{refusal}

@@ -4,11 +4,10 @@
 --     by-answer                           what an accepted collect wrote is the file of the last image
 --     reloads                             the claim
 -- Assumes nothing.
-use mathlib.Core.Bool.{Bool, true, false, cond, not, _&&_, _||_}
+use mathlib.Core.Bool.{Bool, true, false, cond, not, _&&_}
 use mathlib.Core.List.{List, [], _∷_}
-use mathlib.Core.Logic.{⊎-elim}
 use mathlib.Core.Path.{_≡_, refl, sym, ap, _∙_, subst}
-use Prim.Native.Nat.{ℕ, zero, suc, _+_, _*_, _≤_}
+use Prim.Native.Nat.{ℕ, zero, suc, _+_, _*_}
 use native.Mathlib.Omega.{arith}
 use borrow.Author.Tests.{not-false, le-ltb}
 use lib.ListN.{length, take}
@@ -16,7 +15,7 @@ use Rattle.operator.specs.Image.{differs}
 use Rattle.operator.specs.Pass.{Stable}
 use Rattle.history.specs.Answered.{fileOf, answeredBy}
 use Rattle.history.specs.Call.{Call, load, pass, run, view, figures, collect, isCollect, collected, answerOf, stateOf, refusalOf}
-use Rattle.history.specs.Collect.{collectVerdict, collectState}
+use Rattle.history.specs.Collect.{collectState}
 use Rattle.history.specs.Demand3.{Rests, Reloads}
 use Rattle.history.specs.History.{Entry, History, empty, holds, Lengths, entered, nextOf, joined, marked, passed, passedFor, ran, refusedBy, accepted, afterAs, after}
 use Rattle.history.specs.Lists.{Course, lengthsOf, tallied, step, play, uncollected, firstOf}
@@ -24,7 +23,6 @@ use Rattle.history.specs.State.{State, emptyJob}
 use Rattle.history.proofs.After.{held}
 use Rattle.history.proofs.Areas.{take-over}
 use Rattle.history.proofs.Collect.{collect-held}
-use Rattle.history.proofs.Entries.{cond-true, cond-false}
 use Rattle.history.proofs.Kept.{kept}
 use Rattle.history.proofs.Lists.{keeps, play-related}
 use Rattle.history.proofs.Ready.{ready-writable}
@@ -34,14 +32,12 @@ use Rattle.history.proofs.Run.{course}
 use Rattle.history.proofs.Sound.{held-ready}
 use Rattle.history.proofs.Twins.{rests}
 use Rattle.image.proofs.RoundTrip.{image-round-trip}
-use Rattle.image.specs.File.{imageBytes, pixelVerdict}
 use Rattle.image.specs.RoundTrip.{ReadBack}
-use Rattle.seq.proofs.Lists.{clash, either, and-left, and-right}
-use Rattle.verdict.specs.declared.Refusal.{Refusal}
+use Rattle.seq.proofs.Lists.{clash, and-left, and-right}
 use Rattle.verdict.specs.declared.Verdict.{Verdict}
 use Rattle.verdict.specs.declared.Verdict.the-variants.{Accepted, Refused}
 use Rattle.verdict.specs.declared.Written.the-variants as written
-use Rattle.verdict.specs.Rules.{isAccepted, refuseIf, judge}
+use Rattle.verdict.specs.Rules.{isAccepted}
 use Rattle.verdict.specs.Writer.{over, writtenOf, outputOf}
 use Rattle.verdict.proofs.Rules.{orElse-left, refuseIf-accepted}
 

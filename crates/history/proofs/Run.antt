@@ -16,7 +16,6 @@ use native.Mathlib.Omega.{arith}
 use lib.ListN.{length, replicate}
 use Rattle.operator.specs.Image.{differs}
 use Rattle.history.specs.declared.Job.{Job}
-use Rattle.history.specs.declared.Passed.{Passed}
 use Rattle.history.specs.declared.Passed.the-variants as passing
 use Rattle.history.specs.Call.{pass, run, answerOf, stateOf}
 use Rattle.history.specs.Call as calls

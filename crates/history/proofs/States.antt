@@ -8,10 +8,10 @@
 use mathlib.Core.Bool.{Bool, true, false, _||_}
 use mathlib.Core.List.{List, [], _∷_}
 use mathlib.Core.Logic.{_⊎_, inl, inr, ⊎-elim}
-use mathlib.Core.Path.{_≡_, refl, sym, ap, _∙_, subst}
-use Prim.Native.Nat.{ℕ, zero, suc, _+_, _≤_, _<_}
+use mathlib.Core.Path.{_≡_, refl, sym, ap, _∙_}
+use Prim.Native.Nat.{ℕ, zero, suc, _+_, _≤_}
 use native.Mathlib.Omega.{arith}
-use borrow.Author.Tests.{ltb-true, ltb-false, lt-ltb, eqb-true, eqb-false, eq-eqb, ne-eqb, leb-true}
+use borrow.Author.Tests.{ltb-true, lt-ltb, eqb-true, eqb-false, eq-eqb, ne-eqb, leb-true}
 use lib.Dec.{ltb, leb, eqb}
 use lib.ListN.{length}
 use Rattle.operator.specs.Image.{differs}
@@ -24,12 +24,11 @@ use Rattle.history.specs.Collect.{collected, collectVerdict, collectWrit
 use Rattle.history.specs.Demand1.{afterPasses, Goes, Stopped, Cause, unsound, stopped, not-collected, nothing-loaded, not-at-rest}
 use Rattle.history.specs.Load.{areasRule, loadVerdict}
 use Rattle.history.specs.Pass.{Outcome, nextImage, nowAdded, nowRemoved, exceeds, passOf}
-use Rattle.history.specs.Run.{runOf}
 use Rattle.history.specs.Sound.{Unsound, Overruns, Ready}
 use Rattle.history.specs.State as state
 use Rattle.history.specs.State.{State, pixels, image, soundRule, loadedRule, readyVerdict}
 use Rattle.history.specs.View.{figuresOf}
-use Rattle.history.proofs.Never14.{inputNumbers, load-numbers}
+use Rattle.history.proofs.Never14.{load-numbers}
 use Rattle.history.proofs.Passes as passes
 use Rattle.history.proofs.Passes.{Way, way}
 use Rattle.history.proofs.Ready.{ready-sound, ready-accepted, ready-image, ready-next}
@@ -42,7 +41,7 @@ use Rattle.table.specs.declared.Table.{Table}
 use Rattle.table.specs.Record.{recordVerdict}
 use Rattle.verdict.specs.declared.Refusal.{Refusal}
 use Rattle.verdict.specs.declared.Verdict.{Verdict}
-use Rattle.verdict.specs.declared.Verdict.the-variants.{Accepted, Refused}
+use Rattle.verdict.specs.declared.Verdict.the-variants.{Refused}
 use Rattle.verdict.specs.Rules.{refusal, refuseIf, orElse, judge}
 use Rattle.verdict.proofs.Numbers.{one-of-passes}
 use Rattle.verdict.proofs.Rules.{refused-accepted, orElse-accepted, judge-append}

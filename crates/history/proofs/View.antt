@@ -30,7 +30,7 @@ use Rattle.history.proofs.Passes as passes
 use Rattle.history.proofs.Passes.{Way, way}
 use Rattle.history.proofs.Ready.{ready-accepted, ready-image, ready-next, ready-changed, ready-stable}
 use Rattle.history.proofs.Related.{Held}
-use Rattle.history.proofs.Sound.{held-ready, ready-held}
+use Rattle.history.proofs.Sound.{held-ready}
 use Rattle.seq.proofs.Lists.{clash}
 use Rattle.verdict.specs.declared.Verdict.the-variants.{Accepted}
 use Rattle.verdict.proofs.Rules.{refused-accepted}

@@ -8,7 +8,7 @@
 --     Areas c s          what a call leaves of the areas
 --     Demand1            the claim
 -- Assumes nothing.
-use mathlib.Core.Bool.{true, false, _||_}
+use mathlib.Core.Bool.{true, false}
 use mathlib.Core.List.{List, [], _∷_}
 use mathlib.Core.Logic.{_≢_}
 use mathlib.Core.Path.{_≡_}
