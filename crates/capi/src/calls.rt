@@ -12,6 +12,7 @@ ghost use Rattle.history.specs.Collect.{collectWritten, collectOutput, collectS
 ghost use Rattle.history.specs.Load.{loadVerdict, loadState};
 ghost use Rattle.history.specs.Pass.{passOf};
 ghost use Rattle.history.specs.Run.{runOf};
+ghost use Rattle.history.specs.Source.{fromFile};
 ghost use Rattle.job.specs.Core.{at};
 
 pub struct LoadedBy {
@@ -30,10 +31,10 @@ pub struct CollectedBy {
 }
 
 pub(crate) fn load(job: Job, table: Table, file: &[u8], first: &mut [u8], second: &[u8]) -> LoadedBy
-    ensures { λ r. ⌜ (r ≡ loadedBy (loadVerdict table (now (file .entry)) (at job (now (first .entry)) (now (second .entry))))
-        (loadState table (now (file .entry)) (at job (now (first .entry)) (now (second .entry)))))
-        × (now (first .exit) ≡ loadState table (now (file .entry)) (at job (now (first .entry)) (now (second .entry))) .first)
-        × (loadState table (now (file .entry)) (at job (now (first .entry)) (now (second .entry))) .second ≡ now (second .entry)) ⌝ }
+    ensures { λ r. ⌜ (r ≡ loadedBy (loadVerdict table (fromFile (now (file .entry))) (at job (now (first .entry)) (now (second .entry))))
+        (loadState table (fromFile (now (file .entry))) (at job (now (first .entry)) (now (second .entry)))))
+        × (now (first .exit) ≡ loadState table (fromFile (now (file .entry))) (at job (now (first .entry)) (now (second .entry))) .first)
+        × (loadState table (fromFile (now (file .entry))) (at job (now (first .entry)) (now (second .entry))) .second ≡ now (second .entry)) ⌝ }
 {
     let loaded = job::load_core(job, table, file, first, second);
     let answer = loaded.answer;

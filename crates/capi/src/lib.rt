@@ -16,6 +16,7 @@ ghost use Rattle.history.specs.Collect.{collectWritten, collectOutput, collectS
 ghost use Rattle.history.specs.Load.{loadVerdict, loadState};
 ghost use Rattle.history.specs.Pass.{passOf};
 ghost use Rattle.history.specs.Run.{runOf};
+ghost use Rattle.history.specs.Source.{fromFile};
 ghost use Rattle.history.specs.State.{even};
 ghost use Rattle.history.specs.View.{figuresOf};
 ghost use Rattle.image.specs.File.{imageRead, imageArea, imageWritten, imageOutput};
@@ -145,10 +146,10 @@ pub extern "C" fn mask_load(
     first: &mut [u8],
     second: &[u8],
 ) -> Checked
-    ensures { λ r. ⌜ (r ≡ ofVerdict (loadVerdict table (now (file .entry)) (at (now (job .entry)) (now (first .entry)) (now (second .entry)))))
-        × (now (job .exit) ≡ loadState table (now (file .entry)) (at (now (job .entry)) (now (first .entry)) (now (second .entry))) .job)
-        × (now (first .exit) ≡ loadState table (now (file .entry)) (at (now (job .entry)) (now (first .entry)) (now (second .entry))) .first)
-        × (loadState table (now (file .entry)) (at (now (job .entry)) (now (first .entry)) (now (second .entry))) .second ≡ now (second .entry)) ⌝ }
+    ensures { λ r. ⌜ (r ≡ ofVerdict (loadVerdict table (fromFile (now (file .entry))) (at (now (job .entry)) (now (first .entry)) (now (second .entry)))))
+        × (now (job .exit) ≡ loadState table (fromFile (now (file .entry))) (at (now (job .entry)) (now (first .entry)) (now (second .entry))) .job)
+        × (now (first .exit) ≡ loadState table (fromFile (now (file .entry))) (at (now (job .entry)) (now (first .entry)) (now (second .entry))) .first)
+        × (loadState table (fromFile (now (file .entry))) (at (now (job .entry)) (now (first .entry)) (now (second .entry))) .second ≡ now (second .entry)) ⌝ }
 {
     let s = calls::load(*job, table, file, first, second);
     *job = s.job;

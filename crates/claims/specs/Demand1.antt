@@ -18,8 +18,8 @@ use Rattle.history.specs.Load.{areasRule}
 use Rattle.history.specs.Pass.{passOf}
 use Rattle.history.specs.Run.{runOf}
 use Rattle.history.specs.Sound.{Unsound, Overruns}
+use Rattle.history.specs.Source.{Source, sourceVerdict}
 use Rattle.history.specs.State.{State, pixels}
-use Rattle.image.specs.File.{fileVerdict}
 use Rattle.table.specs.declared.Table.{Table}
 use Rattle.table.specs.Record.{recordVerdict}
 use Rattle.verdict.specs.declared.Refusal.{Refusal}
@@ -90,8 +90,8 @@ pub run-overruns : (s : State) (k : ℕ) → ((i : ℕ) → i < k → passOf (af
 run-overruns s k g o = demand-1 .given run s 14 (stopped (k, g, o))
 
 -- because of the input: load on a sound empty record, collect at rest
-pub load-refused-by : (t : Table) (f : List ℕ) (s : State) → (Unsound s → ⊥) → s .job .stage ≡ 0
-    → refusalOf (answerOf (load t f) s) ≡ judge (recordVerdict t ∷ fileVerdict f ∷ areasRule f (length (s .first)) (length (s .second)) ∷ [])
+pub load-refused-by : (t : Table) (x : Source) (s : State) → (Unsound s → ⊥) → s .job .stage ≡ 0
+    → refusalOf (answerOf (load t x) s) ≡ judge (recordVerdict t ∷ sourceVerdict x ∷ areasRule x (length (s .first)) (length (s .second)) ∷ [])
 load-refused-by = demand-1 .by-input
 
 pub collect-refused-by : (out : List ℕ) (s : State) → (Unsound s → ⊥) → s .job .stage ≡ 2

@@ -18,6 +18,7 @@ use Rattle.history.specs.Demand3.{AfterList}
 use Rattle.history.specs.History as book
 use Rattle.history.specs.History.{Entry, empty, holds, Lengths, refusedBy}
 use Rattle.history.specs.Lists.{Course, start, lengthsOf, step, play, uncollected, firstOf, overSteps}
+use Rattle.history.specs.Source.{fromFile}
 use Rattle.history.specs.State.{State}
 use Rattle.history.specs.View.{viewOf, cover}
 use Rattle.image.specs.Size.{badSize}
@@ -157,7 +158,7 @@ module _ (cs : List Call) (a b : List ℕ) where
     -- what an accepted collect wrote, loaded again with its table
     module _ (out : List ℕ) (m : ℕ) (after : List ℕ) (q : answerOf (collect out) (state cs a b) ≡ collected (Length m) after) where
       abbrev again : Call
-      again = load (e .table) (take m after)
+      again = load (e .table) (fromFile (take m after))
 
       abbrev emptied : Course
       emptied = step (collect out) (course cs a b)

@@ -22,17 +22,15 @@ use Rattle.history.specs.Load.{loadRules, loadVerdict, loadAs, loadState
 use Rattle.history.specs.Pass.{nextImage, withNext, changedJob, stableJob, passOf}
 use Rattle.history.specs.Run.{runOf}
 use Rattle.history.specs.Sound.{Ready}
+use Rattle.history.specs.Source.{Source, sourceWidth, sourceHeight, sourcePixels}
 use Rattle.history.specs.State.{State, pixels, even}
 use Rattle.history.proofs.Areas.{length-over}
 use Rattle.history.proofs.Passes as passes
 use Rattle.history.proofs.Passes.{Way, way, changed}
 use Rattle.history.proofs.Ready.{ready-next}
 use Rattle.history.proofs.Runs.{goes-next, ends}
-use Rattle.image.specs.File.{pixelsOf}
-use Rattle.image.specs.Header.{widthOf, heightOf}
-use Rattle.image.specs.RoundTrip.{imageOf}
+use Rattle.history.proofs.Sources.{source-length}
 use Rattle.seq.proofs.Lists.{clash, either}
-use Rattle.seq.proofs.Tab.{length-tab}
 use Rattle.seq.proofs.Tests.{or-none-left}
 use Rattle.table.specs.declared.Table.{Table}
 use Rattle.verdict.specs.declared.Verdict.{Verdict}
@@ -107,27 +105,24 @@ run-stays : (s : State) → Stays (pixels (s .job)) s (runOf s .state)
 run-stays s = let x = ends s in rw (x .last) (passes-stay (x .finished) s (x .goes))
 
 -- an accepted load has room in the first area
-load-room : (t : Table) (f : List ℕ) (s : State) → loadVerdict t f s ≡ Accepted → widthOf f * heightOf f ≤ length (s .first)
+load-room : (t : Table) (x : Source) (s : State) → loadVerdict t x s ≡ Accepted → sourceWidth x * sourceHeight x ≤ length (s .first)
 unfolding loadVerdict
-load-room t f s e =
-    let size = widthOf f * heightOf f in
+load-room t x s e =
+    let size = sourceWidth x * sourceHeight x in
     let room = refuseIf-accepted (ltb (length (s .first)) size || ltb (length (s .second)) size) 13 0
-    (judge-accepted {vs = loadRules t f s} e (List·Memᴰ·tail (List·Memᴰ·tail (List·Memᴰ·tail (List·Memᴰ·tail (List·Memᴰ·head refl)))))) in
+    (judge-accepted {vs = loadRules t x s} e (List·Memᴰ·tail (List·Memᴰ·tail (List·Memᴰ·tail (List·Memᴰ·tail (List·Memᴰ·head refl)))))) in
     ltb-false (length (s .first)) size (or-none-left (ltb (length (s .first)) size) (ltb (length (s .second)) size) room)
 
-load-stays : (t : Table) (f : List ℕ) (s : State) → Stays (widthOf f * heightOf f) s (loadState t f s)
-unfolding loadState imageOf pixelsOf
-load-stays t f s = by (loadVerdict t f s) refl
+load-stays : (t : Table) (x : Source) (s : State) → Stays (sourceWidth x * sourceHeight x) s (loadState t x s)
+unfolding loadState
+load-stays t x s = by (loadVerdict t x s) refl
   where
-    sized : length (imageOf f) ≡ widthOf f * heightOf f
-    sized = length-tab _ (widthOf f * heightOf f)
-
-    by : (v : Verdict) → loadVerdict t f s ≡ v → Stays (widthOf f * heightOf f) s (loadAs v t f s)
-    by (Refused r) e = same (widthOf f * heightOf f) s
+    by : (v : Verdict) → loadVerdict t x s ≡ v → Stays (sourceWidth x * sourceHeight x) s (loadAs v t x s)
+    by (Refused r) e = same (sourceWidth x * sourceHeight x) s
     by Accepted e = record {
-      first-long = length-over (imageOf f) (s .first) (omega (arith, sized, load-room t f s e));
+      first-long = length-over (sourcePixels x) (s .first) (omega (arith, source-length x, load-room t x s e));
       second-long = refl;
-      first-past = drop-over (imageOf f) (s .first) (widthOf f * heightOf f) sized;
+      first-past = drop-over (sourcePixels x) (s .first) (sourceWidth x * sourceHeight x) (source-length x);
       second-past = refl;
     }
 
@@ -141,7 +136,7 @@ collect-stays n s = by (collectVerdict n s)
 
 stays : (c : Call) (s : State) → Stays (reach c s) s (stateOf c s)
 unfolding stateOf
-stays (load t f) s = load-stays t f s
+stays (load t x) s = load-stays t x s
 stays pass s = pass-stays s
 stays run s = run-stays s
 stays view s = same 0 s
@@ -151,9 +146,9 @@ stays (collect out) s = collect-stays (length out) s
 -- load fills the first area only
 load-second : (c : Call) (s : State) → isLoad c ≡ true → stateOf c s .second ≡ s .second
 unfolding stateOf loadState
-load-second (load t f) s l = by (loadVerdict t f s)
+load-second (load t x) s l = by (loadVerdict t x s)
   where
-    by : (v : Verdict) → loadAs v t f s .second ≡ s .second
+    by : (v : Verdict) → loadAs v t x s .second ≡ s .second
     by Accepted = refl
     by (Refused r) = refl
 load-second pass s l = clash l refl

@@ -1,4 +1,5 @@
 pub mod Images
+pub mod Sources
 pub mod Areas
 pub mod Ready
 pub mod Unsound

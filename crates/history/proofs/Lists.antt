@@ -46,7 +46,7 @@ run-keeps s (holds e) n r =
 
 pub keeps : (c : Call) (s : State) (H : History) (n : ℕ) → RelatedTo s H n → Kept c s H n
 unfolding step stateOf after refusedBy accepted tallied
-keeps (load t f) s H n r = load-keeps t f s H n r
+keeps (load t x) s H n r = load-keeps t x s H n r
 keeps pass s H n r = pass-keeps s H n r
 keeps run s H n r = run-keeps s H n r
 keeps view s empty n q = q

@@ -13,9 +13,9 @@ use lib.ListN.{length}
 use Rattle.history.specs.Call.{Call, load, pass, run, view, figures, collect}
 use Rattle.history.specs.History.{History, empty, holds, Lengths, refusedBy}
 use Rattle.history.specs.Load.{areasRule}
-use Rattle.image.proofs.Facts.{file-numbers}
-use Rattle.image.specs.File.{fileVerdict, imageBytes}
-use Rattle.image.specs.Header.{widthOf, heightOf}
+use Rattle.history.specs.Source.{Source, sourceVerdict, sourceWidth, sourceHeight}
+use Rattle.history.proofs.Sources.{source-numbers}
+use Rattle.image.specs.File.{imageBytes}
 use Rattle.table.proofs.Verdicts.{record-numbers}
 use Rattle.table.specs.declared.Table.{Table}
 use Rattle.table.specs.Record.{recordVerdict}
@@ -33,15 +33,15 @@ inputNumbers = 3 ∷ 4 ∷ 5 ∷ 6 ∷ 7 ∷ 9 ∷ 10 ∷ 11 ∷ 12 ∷ 13 ∷ [
 abbrev callNumbers : List ℕ
 callNumbers = 15 ∷ 16 ∷ 17 ∷ inputNumbers
 
-pub load-numbers : (t : Table) (f : List ℕ) (n m : ℕ) → OneOf inputNumbers (judge (recordVerdict t ∷ fileVerdict f ∷ areasRule f n m ∷ []))
-load-numbers t f n m =
+pub load-numbers : (t : Table) (x : Source) (n m : ℕ) → OneOf inputNumbers (judge (recordVerdict t ∷ sourceVerdict x ∷ areasRule x n m ∷ []))
+load-numbers t x n m =
     one-of-or (one-of-more (record-numbers t) refl)
-    (one-of-or (one-of-more (file-numbers f) refl) (one-of-or (one-of-if (ltb n (widthOf f * heightOf f) || ltb m (widthOf f * heightOf f)) 13 0 refl) accepts))
+    (one-of-or (one-of-more (source-numbers x) refl) (one-of-or (one-of-if (ltb n (sourceWidth x * sourceHeight x) || ltb m (sourceWidth x * sourceHeight x)) 13 0 refl) accepts))
 
 call-numbers : (c : Call) (n : Lengths) (H : History) → OneOf callNumbers (refusedBy c n H)
 unfolding refusedBy
-call-numbers (load t f) n empty = one-of-more (load-numbers t f (n .first) (n .second)) refl
-call-numbers (load t f) n (holds e) = refuses refl
+call-numbers (load t x) n empty = one-of-more (load-numbers t x (n .first) (n .second)) refl
+call-numbers (load t x) n (holds e) = refuses refl
 call-numbers pass n empty = refuses refl
 call-numbers pass n (holds e) = accepts
 call-numbers run n empty = refuses refl

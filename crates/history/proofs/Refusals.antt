@@ -53,7 +53,7 @@ module _ (s : State) {r : Refusal} where
 
   pub zeroed : (c : Call) → refusalOf (answerOf c s) ≡ Refused r → answerOf c s ≡ refusing c r
   unfolding answerOf viewOf figuresOf collectWritten collectOutput
-  zeroed (load t f) q = rw q
+  zeroed (load t x) q = rw q
   zeroed pass q = ap passed (passed-refused (passOf s .answer) q)
   zeroed run q = ap passed (passed-refused _ q)
   zeroed view q = rw q
@@ -74,7 +74,7 @@ module _ (s : State) {r : Refusal} where
 
   pub unaltered : (c : Call) → isRun c ≡ false → refusalOf (answerOf c s) ≡ Refused r → stateOf c s ≡ s
   unfolding answerOf stateOf loadState collectState
-  unaltered (load t f) n q = rw q
+  unaltered (load t x) n q = rw q
   unaltered pass n q = pass-unaltered q
   unaltered run n q = clash refl n
   unaltered view n q = refl

@@ -43,7 +43,7 @@ run-empty s q = run-refused s (ready-empty s q)
 
 answered-empty : (c : Call) (s : State) → s .job ≡ emptyJob → answerOf c s ≡ answeredBy c (lengthsOf s) empty
 unfolding answerOf answeredBy viewOf figuresOf collectWritten collectOutput refusedBy
-answered-empty (load t f) s q = ap loaded (load-empty t f s q)
+answered-empty (load t x) s q = ap loaded (load-empty t x s q)
 answered-empty pass s q = rw (pass-empty s q)
 answered-empty run s q = rw (run-empty s q)
 answered-empty view s q = rw (ready-empty s q)
@@ -62,7 +62,7 @@ module _ {s : State} {e : Entry} {n : ℕ} (r : Held s e n) where
 
   answered-held : (c : Call) → answerOf c s ≡ answeredBy c (lengthsOf s) (holds e)
   unfolding answerOf answeredBy viewOf figuresOf figuresBy collectWritten collectOutput fileOf refusedBy
-  answered-held (load t f) = ap loaded (load-held t f r)
+  answered-held (load t x) = ap loaded (load-held t x r)
   answered-held pass = ap passed answered-pass
   answered-held run = ap passed (run-answer r ∙ sym (ap restIf (ran-settled r)))
   answered-held view = rw (ready-held r, r .shown)
@@ -80,7 +80,7 @@ no-refusal false = refl
 
 refused-by : (c : Call) (n : Lengths) (H : History) → refusalOf (answeredBy c n H) ≡ refusedBy c n H
 unfolding answeredBy refusedBy figuresBy
-refused-by (load t f) n H = refl
+refused-by (load t x) n H = refl
 refused-by pass n empty = refl
 refused-by pass n (holds e) = no-refusal (book.passed e .settled)
 refused-by run n empty = refl
@@ -102,7 +102,7 @@ unaltered-run s empty n r h q = ap (λ (o : Outcome). o .state) (run-empty s h)
 unaltered-run s (holds e) n r h q = absurd (let z : Accepted ≡ Refused r = sym (rw (run-answer h)) ∙ q in let y : _≡_ {A = ℕ} 0 1 = cc in omega arith)
 
 pub unaltered : (c : Call) (s : State) (H : History) (n : ℕ) (r : Refusal) → RelatedTo s H n → refusalOf (answerOf c s) ≡ Refused r → stateOf c s ≡ s
-unaltered (load t f) s H n r h q = refusals.unaltered s (load t f) refl q
+unaltered (load t x) s H n r h q = refusals.unaltered s (load t x) refl q
 unaltered pass s H n r h q = refusals.unaltered s pass refl q
 unaltered run s H n r h q = unaltered-run s H n r h q
 unaltered view s H n r h q = refusals.unaltered s view refl q

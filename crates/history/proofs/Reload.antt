@@ -19,6 +19,7 @@ use Rattle.history.specs.Collect.{collectState}
 use Rattle.history.specs.Demand3.{Rests, Reloads}
 use Rattle.history.specs.History.{Entry, History, empty, holds, Lengths, entered, nextOf, joined, marked, passed, passedFor, ran, refusedBy, accepted, afterAs, after}
 use Rattle.history.specs.Lists.{Course, lengthsOf, tallied, step, play, uncollected, firstOf}
+use Rattle.history.specs.Source.{fromFile}
 use Rattle.history.specs.State.{State, emptyJob}
 use Rattle.history.proofs.After.{held}
 use Rattle.history.proofs.Areas.{take-over}
@@ -86,7 +87,7 @@ record Keeps (e : Entry) (w : Course) : Type 0 where
 keeps-call : (c : Call) {s : State} {e : Entry} {n : ℕ} → Held s e n → not (isCollect c && isAccepted (refusalOf (answerOf c s))) ≡ true
     → Keeps e (step c (course s e n))
 unfolding step after refusedBy accepted
-keeps-call (load t f) {s} {e} r u = record { entry = e; held-by = refl; like = same e }
+keeps-call (load t x) {s} {e} r u = record { entry = e; held-by = refl; like = same e }
 keeps-call pass {s} {e} r u = record { entry = passed e; held-by = refl; like = same-passed e }
 keeps-call run {s} {e} r u = record { entry = ran e; held-by = refl; like = same-ran e }
 keeps-call view {s} {e} r u = record { entry = e; held-by = refl; like = same e }
@@ -112,13 +113,13 @@ keeps-play (c ∷ cs) w e r k u =
         record { entry = x .entry; held-by = ap (λ (v : Course). step c v .history) (sym same-course) ∙ x .held-by; like = then (k .like) (x .like) }
 
 -- what a writer's answer says of its verdict
-by-answer : (v : Verdict) (file out : List ℕ) {m : ℕ} {after : List ℕ} → collected (writtenOf v file) (outputOf v file out) ≡ collected (written.Length m) after
-    → (v ≡ Accepted) × (take m after ≡ file)
-by-answer Accepted file out {m} {after} q =
-    let n : length file ≡ m = cc in
-    let o : over file out ≡ after = cc in
-    (refl, ap (take m) (sym o) ∙ take-over file out m n)
-by-answer (Refused x) file out q = absurd (let z : _≡_ {A = ℕ} 0 1 = cc in omega arith)
+by-answer : (v : Verdict) (bytes out : List ℕ) {m : ℕ} {after : List ℕ} → collected (writtenOf v bytes) (outputOf v bytes out) ≡ collected (written.Length m) after
+    → (v ≡ Accepted) × (take m after ≡ bytes)
+by-answer Accepted bytes out {m} {after} q =
+    let n : length bytes ≡ m = cc in
+    let o : over bytes out ≡ after = cc in
+    (refl, ap (take m) (sym o) ∙ take-over bytes out m n)
+by-answer (Refused x) bytes out q = absurd (let z : _≡_ {A = ℕ} 0 1 = cc in omega arith)
 
 module _ {s : State} {e : Entry} {n : ℕ} (r : Held s e n) where
   -- the file of the last image is accepted, and gives it back
@@ -148,7 +149,7 @@ module _ {s : State} {e : Entry} {n : ℕ} (r : Held s e n) where
     room = kept (collect out) s .lengths
 
     abbrev again : Call
-    again = load (e .table) (fileOf e)
+    again = load (e .table) (fromFile (fileOf e))
 
     -- so the load is accepted
     fitting : refusedBy again (lengthsOf s) empty ≡ Accepted
@@ -162,11 +163,11 @@ module _ {s : State} {e : Entry} {n : ℕ} (r : Held s e n) where
     between = record { state = left; history = empty; tally = 0 }
 
     -- the history then holds an entry whose first image is the last one, which is stable
-    begun : Keeps (entered (e .table) (fileOf e)) (step again between)
+    begun : Keeps (entered (e .table) (fromFile (fileOf e))) (step again between)
     unfolding step after accepted
-    begun = record { entry = entered (e .table) (fileOf e); held-by = rw admitted; like = same (entered (e .table) (fileOf e)) }
+    begun = record { entry = entered (e .table) (fromFile (fileOf e)); held-by = rw admitted; like = same (entered (e .table) (fromFile (fileOf e))) }
 
-    like-last : (d : Entry) → Same (entered (e .table) (fileOf e)) d
+    like-last : (d : Entry) → Same (entered (e .table) (fromFile (fileOf e))) d
         → (firstOf d ≡ e .last) × Stable (d .table) (d .width) (d .height) (firstOf d)
     unfolding entered fileOf
     like-last d x =
@@ -177,7 +178,7 @@ module _ {s : State} {e : Entry} {n : ℕ} (r : Held s e n) where
     stays cs u =
         let related : Related between = emptied in
         let loaded = keeps again left empty 0 related in
-        let k = keeps-play cs (step again between) (entered (e .table) (fileOf e)) loaded begun u in
+        let k = keeps-play cs (step again between) (entered (e .table) (fromFile (fileOf e))) loaded begun u in
         let last = play-related cs (step again between) loaded in
         let (first, stable) = like-last (k .entry) (k .like) in
         subst (λ (img : List ℕ). Rests img (play cs (step again between) .state)) first

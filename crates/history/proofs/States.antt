@@ -25,6 +25,7 @@ use Rattle.history.specs.Demand1.{afterPasses, Goes, Stopped, Cause, uns
 use Rattle.history.specs.Load.{areasRule, loadVerdict}
 use Rattle.history.specs.Pass.{Outcome, nextImage, nowAdded, nowRemoved, exceeds, passOf}
 use Rattle.history.specs.Sound.{Unsound, Overruns, Ready}
+use Rattle.history.specs.Source.{Source, sourceVerdict}
 use Rattle.history.specs.State as state
 use Rattle.history.specs.State.{State, pixels, image, soundRule, loadedRule, readyVerdict}
 use Rattle.history.specs.View.{figuresOf}
@@ -35,7 +36,6 @@ use Rattle.history.proofs.Ready.{ready-sound, ready-accepted, ready-ima
 use Rattle.history.proofs.Refusals.{written-refusal}
 use Rattle.history.proofs.Runs.{run-refused, goes-ready, ends, ends-at}
 use Rattle.history.proofs.Unsound.{unsound-words, words-unsound, sound-none, sound-ready}
-use Rattle.image.specs.File.{fileVerdict}
 use Rattle.seq.proofs.Lists.{clash, either, not-true-false, or-cases, or-left, or-right}
 use Rattle.table.specs.declared.Table.{Table}
 use Rattle.table.specs.Record.{recordVerdict}
@@ -66,7 +66,7 @@ collect-split n s =
 -- every call but load is refused as `readyVerdict` refuses
 unready-call : (s : State) {r : Refusal} → readyVerdict s ≡ Refused r → (c : Call) → isLoad c ≡ false → refusedWith c s ≡ Refused r
 unfolding answerOf figuresOf collectWritten
-unready-call s e (load t f) n = clash refl n
+unready-call s e (load t x) n = clash refl n
 unready-call s e pass n = ap (λ (o : Outcome). passedVerdict (o .answer)) (passes.pass-refused s e)
 unready-call s e run n = ap (λ (o : Outcome). passedVerdict (o .answer)) (run-refused s e)
 unready-call s e view n = e
@@ -81,7 +81,7 @@ module _ (s : State) (bad : state.unsound s ≡ true) where
 
   unsound-call : (c : Call) → refusedWith c s ≡ Refused (refusal 14 0)
   unfolding answerOf loadVerdict
-  unsound-call (load t f) = rw bad
+  unsound-call (load t x) = rw bad
   unsound-call pass = unready-call s unready pass refl
   unsound-call run = unready-call s unready run refl
   unsound-call view = unready-call s unready view refl
@@ -97,14 +97,14 @@ module _ (s : State) (good : state.unsound s ≡ false) where
     empty-call : (c : Call) → isLoad c ≡ false → refusedWith c s ≡ Refused (refusal 16 0)
     empty-call = unready-call s nothing
 
-    pub empty-load : (t : Table) (f : List ℕ)
-        → refusedWith (load t f) s ≡ judge (recordVerdict t ∷ fileVerdict f ∷ areasRule f (length (s .first)) (length (s .second)) ∷ [])
+    pub empty-load : (t : Table) (x : Source)
+        → refusedWith (load t x) s ≡ judge (recordVerdict t ∷ sourceVerdict x ∷ areasRule x (length (s .first)) (length (s .second)) ∷ [])
     unfolding answerOf loadVerdict
-    empty-load t f = rw (good, eq-eqb (s .job .stage) 0 empty)
+    empty-load t x = rw (good, eq-eqb (s .job .stage) 0 empty)
 
-  ready-load : (s .job .stage ≡ 0 → ⊥) → (t : Table) (f : List ℕ) → refusedWith (load t f) s ≡ Refused (refusal 15 0)
+  ready-load : (s .job .stage ≡ 0 → ⊥) → (t : Table) (x : Source) → refusedWith (load t x) s ≡ Refused (refusal 15 0)
   unfolding answerOf loadVerdict
-  ready-load n t f = rw (good, ne-eqb (s .job .stage) 0 n)
+  ready-load n t x = rw (good, ne-eqb (s .job .stage) 0 n)
 
   module _ (out : List ℕ) (n : s .job .stage ≡ 0 → ⊥) where
     -- what is left of collect's rules
@@ -156,7 +156,7 @@ refused-changed p q = let z : _≡_ {A = ℕ} 0 1 = cc in omega arith
 
 stopped-call : (c : Call) (s : State) → Stopped c s → refusedWith c s ≡ Refused (refusal 14 0)
 unfolding answerOf
-stopped-call (load t f) s x = absurd x
+stopped-call (load t y) s x = absurd x
 stopped-call pass s o = ap passedVerdict (overrun-pass o)
 stopped-call run s (k, g, o) =
     let p = overrun-pass o in
@@ -168,14 +168,14 @@ stopped-call (collect out) s x = absurd x
 pub given : (c : Call) (s : State) (n : ℕ) → Cause c s n → refusedWith c s ≡ Refused (refusal n 0)
 given c s n (unsound u) = unsound-call s (words-unsound s u) c
 given c s n (stopped x) = stopped-call c s x
-given (load t f) s n (not-collected g l z) = ready-load s (sound s g) z t f
+given (load t x) s n (not-collected g l z) = ready-load s (sound s g) z t x
 given pass s n (not-collected g l z) = clash l refl
 given run s n (not-collected g l z) = clash l refl
 given view s n (not-collected g l z) = clash l refl
 given figures s n (not-collected g l z) = clash l refl
 given (collect out) s n (not-collected g l z) = clash l refl
 given c s n (nothing-loaded g l z) = empty-call s (sound s g) z c l
-given (load t f) s n (not-at-rest g l z) = clash l refl
+given (load t x) s n (not-at-rest g l z) = clash l refl
 given pass s n (not-at-rest g l z) = clash l refl
 given run s n (not-at-rest g l z) = clash l refl
 given view s n (not-at-rest g l z) = clash l refl
@@ -188,11 +188,11 @@ named : {v : Verdict} {r : Refusal} (c : Call) (s : State) (n : ℕ) → v ≡ R
 named {r = r} c s n p q x = let e : r ≡ refusal n 0 = cc in rw e (x, refl)
 
 -- refused because of the input
-low-load : (s : State) (good : state.unsound s ≡ false) (empty : s .job .stage ≡ 0) (t : Table) (f : List ℕ) {r : Refusal}
-    → refusedWith (load t f) s ≡ Refused r → r .number ≤ 13
-low-load s good empty t f {r} q =
+low-load : (s : State) (good : state.unsound s ≡ false) (empty : s .job .stage ≡ 0) (t : Table) (x : Source) {r : Refusal}
+    → refusedWith (load t x) s ≡ Refused r → r .number ≤ 13
+low-load s good empty t x {r} q =
     leb-true (r .number) 13
-    (one-of-passes (λ n. leb n 13) (load-numbers t f (length (s .first)) (length (s .second))) refl (sym (empty-load s good empty t f) ∙ q))
+    (one-of-passes (λ n. leb n 13) (load-numbers t x (length (s .first)) (length (s .second))) refl (sym (empty-load s good empty t x) ∙ q))
 
 low-collect : (b : Bool) {r : Refusal} → refuseIf b 13 0 ≡ Refused r → r .number ≤ 13
 low-collect true {r} q = let e : refusal 13 0 ≡ r = cc in omega (arith, ap (λ (x : Refusal). x .number) e)
@@ -233,7 +233,7 @@ takes c = isLoad c || isCollect c
 module _ (s : State) (good : state.unsound s ≡ false) {r : Refusal} where
   only-empty : s .job .stage ≡ 0 → (c : Call) → refusedWith c s ≡ Refused r → (takes c ≡ true → 14 ≤ r .number)
       → Cause c s (r .number) × (r .place ≡ 0)
-  only-empty z (load t f) q l = absurd (omega (arith, low-load s good z t f q, l refl))
+  only-empty z (load t x) q l = absurd (omega (arith, low-load s good z t x q, l refl))
   only-empty z pass q l = named pass s 16 q (empty-call s good z pass refl) (nothing-loaded (sound-none s good) refl z)
   only-empty z run q l = named run s 16 q (empty-call s good z run refl) (nothing-loaded (sound-none s good) refl z)
   only-empty z view q l = named view s 16 q (empty-call s good z view refl) (nothing-loaded (sound-none s good) refl z)
@@ -243,7 +243,7 @@ module _ (s : State) (good : state.unsound s ≡ false) {r : Refusal} where
   only-ready : (s .job .stage ≡ 0 → ⊥) → (c : Call) → refusedWith c s ≡ Refused r → (takes c ≡ true → 14 ≤ r .number)
       → Cause c s (r .number) × (r .place ≡ 0)
   unfolding answerOf figuresOf
-  only-ready n (load t f) q l = named (load t f) s 15 q (ready-load s good n t f) (not-collected (sound-none s good) refl n)
+  only-ready n (load t x) q l = named (load t x) s 15 q (ready-load s good n t x) (not-collected (sound-none s good) refl n)
   only-ready n pass q l = only-pass s (sound-ready s good n) q
   only-ready n run q l = only-run s (sound-ready s good n) q
   only-ready n view q l = refused-accepted q (ready-accepted (sound-ready s good n))
@@ -281,9 +281,9 @@ cause-number (not-at-rest g l z) = omega arith
 pub by-state : (c : Call) (s : State) (r : Refusal) → isLoad c ≡ false → isCollect c ≡ false → refusedWith c s ≡ Refused r → 14 ≤ r .number
 by-state c s r a b q = cause-number (by-cause c s r q (λ e. clash e (rw (a, b))) .0)
 
-pub by-input : (t : Table) (f : List ℕ) (s : State) → (Unsound s → ⊥) → s .job .stage ≡ 0
-    → refusedWith (load t f) s ≡ judge (recordVerdict t ∷ fileVerdict f ∷ areasRule f (length (s .first)) (length (s .second)) ∷ [])
-by-input t f s n z = empty-load s (sound s n) z t f
+pub by-input : (t : Table) (x : Source) (s : State) → (Unsound s → ⊥) → s .job .stage ≡ 0
+    → refusedWith (load t x) s ≡ judge (recordVerdict t ∷ sourceVerdict x ∷ areasRule x (length (s .first)) (length (s .second)) ∷ [])
+by-input t x s n z = empty-load s (sound s n) z t x
 
 pub by-output : (out : List ℕ) (s : State) → (Unsound s → ⊥) → s .job .stage ≡ 2
     → refusedWith (collect out) s ≡ refuseIf (ltb (length out) (length (collected s))) 13 0

@@ -38,7 +38,7 @@ abbrev nothing : Refusal
 nothing = refusal 16 0
 
 unfoldable pub answeredBy : Call → Lengths → History → Answer
-answeredBy (load t f) n H = loaded (refusedBy (load t f) n H)
+answeredBy (load t x) n H = loaded (refusedBy (load t x) n H)
 answeredBy pass n empty = refusing pass nothing
 answeredBy pass n (holds e) = passed (restIf (book.passed e .settled))
 answeredBy run n empty = refusing run nothing

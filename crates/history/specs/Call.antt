@@ -19,6 +19,7 @@ use Rattle.history.specs.Collect.{collectWritten, collectOutput, collect
 use Rattle.history.specs.Load.{loadVerdict, loadState}
 use Rattle.history.specs.Pass.{passOf}
 use Rattle.history.specs.Run.{runOf}
+use Rattle.history.specs.Source.{Source}
 use Rattle.history.specs.State.{State, readyVerdict}
 use Rattle.history.specs.View.{viewOf, figuresOf}
 use Rattle.table.specs.declared.Table.{Table}
@@ -30,8 +31,8 @@ use Rattle.verdict.specs.declared.Written.the-variants as writing
 use Rattle.verdict.specs.Answers.{writtenVerdict}
 
 pub data Call : Type 0 where
-  -- a table record and an image file
-  load : Table → List ℕ → Call
+  -- a table record, and what the image is taken from
+  load : Table → Source → Call
   pass run view figures : Call
   -- a lent output
   collect : List ℕ → Call
@@ -46,7 +47,7 @@ pub data Answer : Type 0 where
   collected : Written → List ℕ → Answer
 
 abbrev pub isLoad : Call → Bool
-isLoad (load t f) = true
+isLoad (load t x) = true
 isLoad pass = false
 isLoad run = false
 isLoad view = false
@@ -54,7 +55,7 @@ isLoad figures = false
 isLoad (collect out) = false
 
 abbrev pub isRun : Call → Bool
-isRun (load t f) = false
+isRun (load t x) = false
 isRun pass = false
 isRun run = true
 isRun view = false
@@ -62,7 +63,7 @@ isRun figures = false
 isRun (collect out) = false
 
 abbrev pub isCollect : Call → Bool
-isCollect (load t f) = false
+isCollect (load t x) = false
 isCollect pass = false
 isCollect run = false
 isCollect view = false
@@ -70,7 +71,7 @@ isCollect figures = false
 isCollect (collect out) = true
 
 unfoldable pub answerOf : Call → State → Answer
-answerOf (load t f) s = loaded (loadVerdict t f s)
+answerOf (load t x) s = loaded (loadVerdict t x s)
 answerOf pass s = passed (passOf s .answer)
 answerOf run s = passed (runOf s .answer)
 answerOf view s = shown (viewOf s) (readyVerdict s)
@@ -78,7 +79,7 @@ answerOf figures s = figured (figuresOf s)
 answerOf (collect out) s = collected (collectWritten (length out) s) (collectOutput out s)
 
 unfoldable pub stateOf : Call → State → State
-stateOf (load t f) s = loadState t f s
+stateOf (load t x) s = loadState t x s
 stateOf pass s = passOf s .state
 stateOf run s = runOf s .state
 stateOf view s = s
@@ -93,7 +94,7 @@ refusalOf (figured a) = figuredVerdict a
 refusalOf (collected a out) = writtenVerdict a
 
 abbrev pub refusing : Call → Refusal → Answer
-refusing (load t f) r = loaded (Refused r)
+refusing (load t x) r = loaded (Refused r)
 refusing pass r = passed (passing.Refused r)
 refusing run r = passed (passing.Refused r)
 refusing view r = shown [] (Refused r)

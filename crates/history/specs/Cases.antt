@@ -12,6 +12,7 @@ use Rattle.operator.specs.Image.{black}
 use Rattle.history.specs.Call.{Call, load, pass, run, collect, answerOf, refusalOf}
 use Rattle.history.specs.History.{History, empty, holds}
 use Rattle.history.specs.Lists.{Course, start, step}
+use Rattle.history.specs.Source.{fromFile}
 use Rattle.history.specs.View.{viewOf}
 use Rattle.seq.specs.Lists.{sameList}
 use Rattle.table.specs.declared.Table.{Table}
@@ -53,15 +54,15 @@ dot = 0x50 ∷ 0x34 ∷ 0x0A ∷ 0x35 ∷ 0x20 ∷ 0x35 ∷ 0x0A ∷ 0x00 ∷ 0x
 abbrev calls : List Call
 calls =
     pass
-    ∷ load ring dot
-    ∷ load ring dot
+    ∷ load ring (fromFile dot)
+    ∷ load ring (fromFile dot)
     ∷ collect (replicate 12 0)
     ∷ pass
     ∷ pass
     ∷ pass
     ∷ collect (replicate 11 0)
     ∷ collect (replicate 12 0)
-    ∷ load ring dot
+    ∷ load ring (fromFile dot)
     ∷ run
     ∷ []
 

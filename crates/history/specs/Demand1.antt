@@ -23,9 +23,8 @@ use Rattle.history.specs.Load.{areasRule}
 use Rattle.history.specs.Pass.{passOf}
 use Rattle.history.specs.Run.{runOf}
 use Rattle.history.specs.Sound.{Unsound, Overruns}
+use Rattle.history.specs.Source.{Source, sourceVerdict, sourceWidth, sourceHeight}
 use Rattle.history.specs.State.{State, pixels}
-use Rattle.image.specs.File.{fileVerdict}
-use Rattle.image.specs.Header.{widthOf, heightOf}
 use Rattle.table.specs.declared.Table.{Table}
 use Rattle.table.specs.Record.{recordVerdict}
 use Rattle.verdict.specs.declared.Refusal.{Refusal}
@@ -49,7 +48,7 @@ pub record RunEnds (s : State) : Type 0 where
   pub ends : runOf s .answer ≢ Changed
 
 abbrev pub Stopped : Call → State → Type 0
-Stopped (load t f) s = ⊥
+Stopped (load t x) s = ⊥
 Stopped pass s = Overruns s
 Stopped run s = (k : ℕ) × Goes k s × Overruns (afterPasses k s)
 Stopped view s = ⊥
@@ -65,7 +64,7 @@ pub data Cause (c : Call) (s : State) : ℕ → Type 0 where
   not-at-rest : (Unsound s → ⊥) → isCollect c ≡ true → s .job .stage ≡ 1 → Cause c s 17
 
 abbrev pub reach : Call → State → ℕ
-reach (load t f) s = widthOf f * heightOf f
+reach (load t x) s = sourceWidth x * sourceHeight x
 reach pass s = pixels (s .job)
 reach run s = pixels (s .job)
 reach view s = 0
@@ -90,10 +89,10 @@ pub record Demand1 : Type 0 where
   pub given : (c : Call) (s : State) (n : ℕ) → Cause c s n → refusalOf (answerOf c s) ≡ Refused (refusal n 0)
   pub only : (c : Call) (s : State) (r : Refusal) → refusalOf (answerOf c s) ≡ Refused r → 14 ≤ r .number
       → Cause c s (r .number) × (r .place ≡ 0)
-  -- pass, run, view and figures are refused for no other reason; load by its table and its file, then 13; collect by 13
+  -- pass, run, view and figures are refused for no other reason; load by its table and its source, then 13; collect by 13
   pub by-state : (c : Call) (s : State) (r : Refusal) → isLoad c ≡ false → isCollect c ≡ false → refusalOf (answerOf c s) ≡ Refused r → 14 ≤ r .number
-  pub by-input : (t : Table) (f : List ℕ) (s : State) → (Unsound s → ⊥) → s .job .stage ≡ 0
-      → refusalOf (answerOf (load t f) s) ≡ judge (recordVerdict t ∷ fileVerdict f ∷ areasRule f (length (s .first)) (length (s .second)) ∷ [])
+  pub by-input : (t : Table) (x : Source) (s : State) → (Unsound s → ⊥) → s .job .stage ≡ 0
+      → refusalOf (answerOf (load t x) s) ≡ judge (recordVerdict t ∷ sourceVerdict x ∷ areasRule x (length (s .first)) (length (s .second)) ∷ [])
   pub by-output : (out : List ℕ) (s : State) → (Unsound s → ⊥) → s .job .stage ≡ 2
       → refusalOf (answerOf (collect out) s) ≡ refuseIf (ltb (length out) (length (collected s))) 13 0
   pub areas : (c : Call) (s : State) → Areas c s

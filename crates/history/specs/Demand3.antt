@@ -5,7 +5,7 @@
 --     AfterList n w       what holds after any list, on areas of the lengths n
 --     Twins w w' e e'     two jobs with one table, one size and equally many accepted passes, or both settled
 --     Rests img s         a stable image that was loaded stays
---     Reloads w e file    so does the last image of an entry, loaded again from its file
+--     Reloads w e f       so does the last image of an entry, loaded again from its file
 --     played cs a b       what a list of calls leaves
 --     Demand3             the claim
 -- Assumes nothing.
@@ -23,6 +23,7 @@ use Rattle.history.specs.Answered.{answeredBy}
 use Rattle.history.specs.Call.{Call, load, pass, run, collect, passed, collected, answerOf, stateOf, refusalOf}
 use Rattle.history.specs.History.{Entry, empty, holds, Lengths, refusedBy}
 use Rattle.history.specs.Lists.{Course, start, lengthsOf, step, play, uncollected, firstOf, overSteps}
+use Rattle.history.specs.Source.{fromFile}
 use Rattle.history.specs.State.{State}
 use Rattle.history.specs.View.{viewOf}
 use Rattle.image.specs.Size.{badSize}
@@ -105,10 +106,10 @@ pub record Rests (img : List ℕ) (s : State) : Type 0 where
   pub run-answer : answerOf run s ≡ passed Stable
 
 -- a file loaded with the entry's table: accepted, and what it loads is the entry's last image, which stays until a collect is accepted
-pub record Reloads (w : Course) (e : Entry) (file : List ℕ) : Type 0 where
-  pub accepted : refusalOf (answerOf (load (e .table) file) (w .state)) ≡ Accepted
-  pub rests : (cs : List Call) → uncollected cs (step (load (e .table) file) w) ≡ true
-      → Rests (e .last) (play cs (step (load (e .table) file) w) .state)
+pub record Reloads (w : Course) (e : Entry) (f : List ℕ) : Type 0 where
+  pub accepted : refusalOf (answerOf (load (e .table) (fromFile f)) (w .state)) ≡ Accepted
+  pub rests : (cs : List Call) → uncollected cs (step (load (e .table) (fromFile f)) w) ≡ true
+      → Rests (e .last) (play cs (step (load (e .table) (fromFile f)) w) .state)
 
 -- what a list of calls leaves, from an empty job with the areas a and b
 abbrev pub played : List Call → List ℕ → List ℕ → Course

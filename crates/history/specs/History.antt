@@ -15,9 +15,8 @@ use Rattle.operator.specs.Image.{differs}
 use Rattle.operator.specs.Pass as filter
 use Rattle.history.specs.Call.{Call, load, pass, run, view, figures, collect}
 use Rattle.history.specs.Load.{areasRule}
-use Rattle.image.specs.File.{fileVerdict, imageBytes}
-use Rattle.image.specs.Header.{widthOf, heightOf}
-use Rattle.image.specs.RoundTrip.{imageOf}
+use Rattle.history.specs.Source.{Source, sourceVerdict, sourceWidth, sourceHeight, sourcePixels}
+use Rattle.image.specs.File.{imageBytes}
 use Rattle.table.specs.declared.Table.{Table}
 use Rattle.table.specs.Record.{recordVerdict}
 use Rattle.verdict.specs.declared.Verdict.{Verdict}
@@ -42,8 +41,8 @@ pub record Lengths : Type 0 where
   pub second : ℕ
 
 -- a load enters its table and its image, no mark
-unfoldable pub entered : Table → List ℕ → Entry
-entered t f = record { table = t; width = widthOf f; height = heightOf f; last = imageOf f; earlier = []; settled = false }
+unfoldable pub entered : Table → Source → Entry
+entered t x = record { table = t; width = sourceWidth x; height = sourceHeight x; last = sourcePixels x; earlier = []; settled = false }
 
 -- the last image through one pass
 unfoldable pub nextOf : Entry → List ℕ
@@ -77,8 +76,8 @@ unfoldable pub ran : Entry → Entry
 ran e = passedFor (e .width * e .height + 1) e
 
 unfoldable pub refusedBy : Call → Lengths → History → Verdict
-refusedBy (load t f) n empty = judge (recordVerdict t ∷ fileVerdict f ∷ areasRule f (n .first) (n .second) ∷ [])
-refusedBy (load t f) n (holds e) = Refused (refusal 15 0)
+refusedBy (load t x) n empty = judge (recordVerdict t ∷ sourceVerdict x ∷ areasRule x (n .first) (n .second) ∷ [])
+refusedBy (load t x) n (holds e) = Refused (refusal 15 0)
 refusedBy pass n empty = Refused (refusal 16 0)
 refusedBy pass n (holds e) = Accepted
 refusedBy run n empty = Refused (refusal 16 0)
@@ -93,7 +92,7 @@ refusedBy (collect out) n (holds e) =
 
 -- an accepted call
 unfoldable pub accepted : Call → History → History
-accepted (load t f) H = holds (entered t f)
+accepted (load t x) H = holds (entered t x)
 accepted pass empty = empty
 accepted pass (holds e) = holds (passed e)
 accepted run empty = empty

@@ -1,4 +1,5 @@
 pub mod State
+pub mod Source
 pub mod Load
 pub mod Pass
 pub mod Sound

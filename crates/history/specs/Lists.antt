@@ -37,7 +37,7 @@ passesOfRun (suc n) e = cond (e .settled) 1 (cond (differs (e .last) (nextOf e))
 
 -- the tally after an accepted call
 unfoldable pub tallied : Call → History → ℕ → ℕ
-tallied (load t f) H n = 0
+tallied (load t x) H n = 0
 tallied pass H n = n + 1
 tallied run empty n = n
 tallied run (holds e) n = n + passesOfRun (e .width * e .height + 1) e

@@ -1,18 +1,17 @@
--- Load (01): 14, 15, table, sheet, 13; then the image in the first area, stage 1, counts 0.
---     loadRules t f s      what a load is refused by, in 01's order
---     loadVerdict t f s    accepted, or number and place
---     loadState t f s      record and areas afterwards: the second area stays
+-- Load (01): 14, 15, table, source, 13; then the image in the first area, stage 1, counts 0.
+--     admitRules t s       14, 15, table
+--     loadRules t x s      what a load is refused by, in 01's order
+--     loadVerdict t x s    accepted, or number and place
+--     loadState t x s      record and areas afterwards: the second area stays
 -- Assumes nothing.
 use mathlib.Core.Bool.{not, _||_}
-use mathlib.Core.List.{List, [], _∷_}
+use mathlib.Core.List.{List, [], _∷_, _++_}
 use Prim.Native.Nat.{ℕ, _*_}
 use lib.Dec.{ltb, eqb}
 use lib.ListN.{length}
 use Rattle.history.specs.declared.Job.{Job}
+use Rattle.history.specs.Source.{Source, sourceVerdict, sourceWidth, sourceHeight, sourcePixels}
 use Rattle.history.specs.State.{State, soundRule}
-use Rattle.image.specs.File.{fileVerdict}
-use Rattle.image.specs.Header.{widthOf, heightOf}
-use Rattle.image.specs.RoundTrip.{imageOf}
 use Rattle.table.specs.declared.Table.{Table}
 use Rattle.table.specs.Record.{recordVerdict}
 use Rattle.verdict.specs.declared.Verdict.{Verdict}
@@ -21,28 +20,26 @@ use Rattle.verdict.specs.Rules.{refuseIf, judge}
 use Rattle.verdict.specs.Writer.{over}
 
 -- 13: both areas are tested
-abbrev pub areasRule : List ℕ → ℕ → ℕ → Verdict
-areasRule f n m = refuseIf (ltb n (widthOf f * heightOf f) || ltb m (widthOf f * heightOf f)) 13 0
+abbrev pub areasRule : Source → ℕ → ℕ → Verdict
+areasRule x n m = refuseIf (ltb n (sourceWidth x * sourceHeight x) || ltb m (sourceWidth x * sourceHeight x)) 13 0
 
-abbrev pub loadRules : Table → List ℕ → State → List Verdict
-loadRules t f s =
-    soundRule s
-    ∷ refuseIf (not (eqb (s .job .stage) 0)) 15 0
-    ∷ recordVerdict t
-    ∷ fileVerdict f
-    ∷ areasRule f (length (s .first)) (length (s .second))
-    ∷ []
+-- what does not depend on the source
+abbrev pub admitRules : Table → State → List Verdict
+admitRules t s = soundRule s ∷ refuseIf (not (eqb (s .job .stage) 0)) 15 0 ∷ recordVerdict t ∷ []
 
-unfoldable pub loadVerdict : Table → List ℕ → State → Verdict
-loadVerdict t f s = judge (loadRules t f s)
+abbrev pub loadRules : Table → Source → State → List Verdict
+loadRules t x s = admitRules t s ++ sourceVerdict x ∷ areasRule x (length (s .first)) (length (s .second)) ∷ []
 
-unfoldable pub loadedJob : Table → List ℕ → Job
-loadedJob t f =
-    record { stage = 1; width = widthOf f; height = heightOf f; passes = 0; added = 0; removed = 0; table = t }
+unfoldable pub loadVerdict : Table → Source → State → Verdict
+loadVerdict t x s = judge (loadRules t x s)
 
-abbrev pub loadAs : Verdict → Table → List ℕ → State → State
-loadAs Accepted t f s = record { job = loadedJob t f; first = over (imageOf f) (s .first); second = s .second }
-loadAs (Refused r) t f s = s
+unfoldable pub loadedJob : Table → Source → Job
+loadedJob t x =
+    record { stage = 1; width = sourceWidth x; height = sourceHeight x; passes = 0; added = 0; removed = 0; table = t }
 
-unfoldable pub loadState : Table → List ℕ → State → State
-loadState t f s = loadAs (loadVerdict t f s) t f s
+abbrev pub loadAs : Verdict → Table → Source → State → State
+loadAs Accepted t x s = record { job = loadedJob t x; first = over (sourcePixels x) (s .first); second = s .second }
+loadAs (Refused r) t x s = s
+
+unfoldable pub loadState : Table → Source → State → State
+loadState t x s = loadAs (loadVerdict t x s) t x s

@@ -1,10 +1,10 @@
--- Load by the code's tests: 14, 15, the table, then what the reader answers on the part of the first area that both areas have.
---     LoadedAs t f s r after        answer, record and areas are as the definition says
---     unsound-load, full-load, bad-table    refused before the reader is called
---     read-in, unread               the reader's answer
+-- Load by the code's tests: 14, 15 and the table, then what the reader of a source answers on the part of the first area that both areas have.
+--     LoadedAs t x s r after        answer, record and areas are as the definition says
+--     admit-unsound, admit-full, admit-table     14, 15 and the table
+--     not-admitted, entered         refused before the reader is called, and after it
 -- Assumes nothing.
 use mathlib.Core.Bool.{Bool, true, false, _||_}
-use mathlib.Core.List.{List, _++_, append-assoc}
+use mathlib.Core.List.{List, [], _∷_, _++_, append-assoc}
 use mathlib.Core.Path.{_≡_, refl, sym, ap, _∙_}
 use Prim.Native.Nat.{ℕ, _*_, _≤_, min}
 use native.Mathlib.Omega.{arith}
@@ -12,28 +12,36 @@ use borrow.Author.Tests.{ltb-true, ltb-false, lt-ltb, le-ltb, eq-eqb, ne-eqb}
 use lib.Dec.{ltb}
 use lib.ListN.{length, take, drop, length-take, take-append-drop}
 use lib.Seq.{drop-append-le}
-use Rattle.history.specs.Load.{loadVerdict, loadedJob, loadState}
+use Rattle.history.specs.Load.{areasRule, admitRules, loadVerdict, loadedJob, loadState}
+use Rattle.history.specs.Source.{Source, sourceVerdict, sourceWidth, sourceHeight, sourcePixels, sourceRead, sourceArea}
 use Rattle.history.specs.State.{State, unsound}
+use Rattle.history.proofs.Sources.{source-length, areaVerdict, source-read, source-area}
 use Rattle.image.specs.declared.ImageRead.{ImageRead}
-use Rattle.image.specs.declared.ImageRead.the-variants as reading
-use Rattle.image.specs.File.{fileVerdict, pixelsOf, imageVerdict, imageRead, imageArea, areaRule}
-use Rattle.image.specs.Header.{widthOf, heightOf}
-use Rattle.image.specs.RoundTrip.{imageOf}
+use Rattle.image.specs.File.{areaRule, readAs}
 use Rattle.job.specs.declared.Loaded.{Loaded}
-use Rattle.job.specs.Core.{loaded}
-use Rattle.seq.proofs.Tab.{length-tab}
+use Rattle.job.specs.Core.{loaded, entering}
 use Rattle.table.specs.declared.Table.{Table}
 use Rattle.table.specs.Record.{recordVerdict}
 use Rattle.verdict.specs.declared.Refusal.{Refusal}
 use Rattle.verdict.specs.declared.Verdict.{Verdict}
 use Rattle.verdict.specs.declared.Verdict.the-variants.{Accepted, Refused}
-use Rattle.verdict.specs.Rules.{refusal, orElse}
-use Rattle.verdict.specs.Writer.{over}
-use Rattle.verdict.proofs.Rules.{orElse-right, refuseIf-accepted, orElse-accepted}
+use Rattle.verdict.specs.Rules.{refusal, orElse, judge}
+use Rattle.verdict.specs.Writer.{over, outputOf}
+use Rattle.verdict.proofs.Rules.{orElse-right, refuseIf-accepted, orElse-accepted, judge-append}
 
-abbrev pub LoadedAs : Table → List ℕ → State → Loaded → List ℕ → Type 0
-LoadedAs t f s r after =
-    (r ≡ loaded (loadVerdict t f s) (loadState t f s)) × (after ≡ loadState t f s .first) × (loadState t f s .second ≡ s .second)
+abbrev pub LoadedAs : Table → Source → State → Loaded → List ℕ → Type 0
+LoadedAs t x s r after =
+    (r ≡ loaded (loadVerdict t x s) (loadState t x s)) × (after ≡ loadState t x s .first) × (loadState t x s .second ≡ s .second)
+
+module _ (t : Table) (s : State) where
+  pub admit-unsound : unsound s ≡ true → Refused (refusal 14 0) ≡ judge (admitRules t s)
+  admit-unsound e = rw e
+
+  pub admit-full : unsound s ≡ false → (s .job .stage ≡ 0 → ⊥) → Refused (refusal 15 0) ≡ judge (admitRules t s)
+  admit-full e n = rw (e, ne-eqb (s .job .stage) 0 n)
+
+  pub admit-table : unsound s ≡ false → s .job .stage ≡ 0 → recordVerdict t ≡ judge (admitRules t s)
+  admit-table e z = rw (e, eq-eqb (s .job .stage) 0 z) (sym (orElse-accepted (recordVerdict t)))
 
 -- the shorter of two areas is too short exactly when one of them is
 short-both : (n k p : ℕ) → (ltb n p || ltb k p) ≡ ltb (min n k) p
@@ -51,74 +59,46 @@ over-part px area m h =
     append-assoc px (drop (length px) (take m area)) (drop m area)
     ∙ ap (λ (l : List ℕ). px ++ l) (sym (drop-append-le (length px) (take m area) (drop m area) h) ∙ ap (drop (length px)) (take-append-drop m area))
 
-module _ (t : Table) (f : List ℕ) (s : State) where
-  refused : {r : Refusal} → loadVerdict t f s ≡ Refused r → LoadedAs t f s (record { answer = Refused r; job = s .job }) (s .first)
+module _ (t : Table) (x : Source) (s : State) where
+  -- what is judged before the reader, and behind it
+  split : loadVerdict t x s ≡ orElse (judge (admitRules t s)) (judge (sourceVerdict x ∷ areasRule x (length (s .first)) (length (s .second)) ∷ []))
+  unfolding loadVerdict
+  split = judge-append (admitRules t s) (sourceVerdict x ∷ areasRule x (length (s .first)) (length (s .second)) ∷ [])
+
+  refused : {r : Refusal} → loadVerdict t x s ≡ Refused r → LoadedAs t x s (record { answer = Refused r; job = s .job }) (s .first)
   unfolding loadState
   refused e = rw e (refl, refl, refl)
 
-  pub unsound-load : unsound s ≡ true → LoadedAs t f s (record { answer = Refused (refusal 14 0); job = s .job }) (s .first)
-  unfolding loadVerdict
-  unsound-load e = refused (rw e)
+  pub not-admitted : {r : Refusal} → judge (admitRules t s) ≡ Refused r → LoadedAs t x s (record { answer = Refused r; job = s .job }) (s .first)
+  not-admitted e = refused (split ∙ rw e)
 
-  module _ (sound : unsound s ≡ false) where
-    pub full-load : (s .job .stage ≡ 0 → ⊥) → LoadedAs t f s (record { answer = Refused (refusal 15 0); job = s .job }) (s .first)
-    unfolding loadVerdict
-    full-load h = refused (rw (sound, ne-eqb (s .job .stage) 0 h))
+  module _ (ok : judge (admitRules t s) ≡ Accepted) {m : ℕ} (both : m ≡ min (length (s .first)) (length (s .second))) where
+    part : List ℕ
+    part = take m (s .first)
 
-    module _ (empty : s .job .stage ≡ 0) where
-      pub bad-table : {r : Refusal} → recordVerdict t ≡ Refused r → LoadedAs t f s (record { answer = Refused r; job = s .job }) (s .first)
-      unfolding loadVerdict
-      bad-table e = refused (rw (sound, eq-eqb (s .job .stage) 0 empty, e))
+    -- the reader's verdict is what is left
+    verdict : loadVerdict t x s ≡ areaVerdict x (length part)
+    unfolding part
+    verdict =
+        let long : length (take m (s .first)) ≡ min (length (s .first)) (length (s .second)) = length-take m (s .first) ∙ omega arith in
+        split
+        ∙ rw (ok, long, short-both (length (s .first)) (length (s .second)) (sourceWidth x * sourceHeight x))
+        (ap (orElse (sourceVerdict x)) (orElse-accepted _))
 
-      module _ (table : recordVerdict t ≡ Accepted) {m : ℕ} (both : m ≡ min (length (s .first)) (length (s .second))) {a : ImageRead} {area : List ℕ}
-          (p : a ≡ imageRead f (length (take m (s .first)))) (q : area ≡ imageArea f (take m (s .first))) where
-        -- the reader's verdict is what is left
-        verdict : loadVerdict t f s ≡ imageVerdict f (length (take m (s .first)))
-        unfolding loadVerdict imageVerdict
-        verdict =
-            let long : length (take m (s .first)) ≡ min (length (s .first)) (length (s .second)) = length-take m (s .first) ∙ omega arith in
-            rw (sound, eq-eqb (s .job .stage) 0 empty, table, long, short-both (length (s .first)) (length (s .second)) (widthOf f * heightOf f))
-            (ap (orElse (fileVerdict f)) (orElse-accepted _))
+    -- an accepted image fits the part
+    fits : areaVerdict x (length part) ≡ Accepted → length (sourcePixels x) ≤ length part
+    fits e =
+        let rule = orElse-right (sourceVerdict x) (areaRule (sourceWidth x) (sourceHeight x) (length part)) e in
+        rw (source-length x) (ltb-false _ _ (refuseIf-accepted (ltb (length part) (sourceWidth x * sourceHeight x)) 13 0 rule))
 
-        part : ℕ
-        part = length (take m (s .first))
+    by-verdict : (v : Verdict) → areaVerdict x (length part) ≡ v
+        → LoadedAs t x s (entering (s .job) t (readAs v (sourceWidth x) (sourceHeight x))) (outputOf v (sourcePixels x) part ++ drop m (s .first))
+    unfolding loadState loadedJob part
+    by-verdict Accepted e = rw (verdict, e, over-part (sourcePixels x) (s .first) m (fits e)) (refl, refl, refl)
+    by-verdict (Refused r) e = rw (take-append-drop m (s .first)) (refused (verdict ∙ e))
 
-        -- the reader's verdict by its answer
-        refused-read : {r : Refusal} → a ≡ reading.Refused r → imageVerdict f part ≡ Refused r
-        unfolding imageRead part
-        refused-read {r} e = by (imageVerdict f part) refl
-          where
-            by : (v : Verdict) → imageVerdict f part ≡ v → v ≡ Refused r
-            by Accepted g =
-                absurd (let z : reading.Refused r ≡ reading.Size (widthOf f) (heightOf f) = sym e ∙ p ∙ rw g in let y : _≡_ {A = ℕ} 0 1 = cc in omega arith)
-            by (Refused x) g = let z : reading.Refused r ≡ reading.Refused x = sym e ∙ p ∙ rw g in cc
-
-        accepted-read : {w h : ℕ} → a ≡ reading.Size w h → (imageVerdict f part ≡ Accepted) × (w ≡ widthOf f) × (h ≡ heightOf f)
-        unfolding imageRead part
-        accepted-read {w} {h} e = by (imageVerdict f part) refl
-          where
-            by : (v : Verdict) → imageVerdict f part ≡ v → (v ≡ Accepted) × (w ≡ widthOf f) × (h ≡ heightOf f)
-            by Accepted g = let z : reading.Size w h ≡ reading.Size (widthOf f) (heightOf f) = sym e ∙ p ∙ rw g in (refl, cc, cc)
-            by (Refused x) g = absurd (let z : reading.Size w h ≡ reading.Refused x = sym e ∙ p ∙ rw g in let y : _≡_ {A = ℕ} 0 1 = cc in omega arith)
-
-        pub unread : {r : Refusal} → a ≡ reading.Refused r → LoadedAs t f s (record { answer = Refused r; job = s .job }) (area ++ drop m (s .first))
-        unfolding imageArea part
-        unread {r} e =
-            let kept : area ++ drop m (s .first) ≡ s .first = rw (q, refused-read e) (take-append-drop m (s .first)) in
-            rw kept (refused (verdict ∙ refused-read e))
-
-        -- an accepted image fits the part
-        fits : imageVerdict f part ≡ Accepted → length (imageOf f) ≤ part
-        unfolding imageVerdict imageOf pixelsOf
-        fits e =
-            let rule = orElse-right (fileVerdict f) (areaRule (widthOf f) (heightOf f) part) e in
-            rw (length-tab _ (widthOf f * heightOf f)) (ltb-false _ _ (refuseIf-accepted (ltb part (widthOf f * heightOf f)) 13 0 rule))
-
-        pub read-in : {w h : ℕ} → a ≡ reading.Size w h
-            → LoadedAs t f s (record { answer = Accepted; job = record { stage = 1; width = w; height = h; passes = 0; added = 0; removed = 0; table = t } })
-            (area ++ drop m (s .first))
-        unfolding loadState loadedJob imageArea imageOf part
-        read-in {w} {h} e =
-            let (ok, wide, high) = accepted-read e in
-            let put : area ++ drop m (s .first) ≡ over (imageOf f) (s .first) = rw (q, ok) (over-part (imageOf f) (s .first) m (fits ok)) in
-            rw (put, wide, high, verdict, ok) (refl, refl, refl)
+    pub entered : {a : ImageRead} {area : List ℕ} {r : Loaded} → a ≡ sourceRead x (length (take m (s .first))) → area ≡ sourceArea x (take m (s .first))
+        → r ≡ entering (s .job) t a → LoadedAs t x s r (area ++ drop m (s .first))
+    unfolding part
+    entered p q e =
+        rw (e, p ∙ source-read x (length part), q ∙ source-area x part) (by-verdict (areaVerdict x (length part)) refl)

@@ -1,16 +1,21 @@
 -- The calls as functions that take the record by value and hand it back.
 --     at j a b         a job record with its two areas
 --     loaded v s, stepped o, emptied w s     an answer and the record afterwards
+--     entering j t a                         the same, after the reader of a load answered a
 -- Assumes nothing.
 use mathlib.Core.List.{List}
 use Prim.Native.Nat.{ℕ}
 use Rattle.history.specs.declared.Job.{Job}
 use Rattle.history.specs.Pass.{Outcome}
 use Rattle.history.specs.State.{State}
+use Rattle.image.specs.declared.ImageRead.{ImageRead}
+use Rattle.image.specs.declared.ImageRead.the-variants as read
 use Rattle.job.specs.declared.Emptied.{Emptied}
 use Rattle.job.specs.declared.Loaded.{Loaded}
 use Rattle.job.specs.declared.Stepped.{Stepped}
+use Rattle.table.specs.declared.Table.{Table}
 use Rattle.verdict.specs.declared.Verdict.{Verdict}
+use Rattle.verdict.specs.declared.Verdict.the-variants.{Accepted, Refused}
 use Rattle.verdict.specs.declared.Written.{Written}
 
 abbrev pub at : Job → List ℕ → List ℕ → State
@@ -18,6 +23,12 @@ at j a b = record { job = j; first = a; second = b }
 
 abbrev pub loaded : Verdict → State → Loaded
 loaded v s = record { answer = v; job = s .job }
+
+-- what a load hands back after its reader
+abbrev pub entering : Job → Table → ImageRead → Loaded
+entering j t (read.Size w h) =
+    record { answer = Accepted; job = record { stage = 1; width = w; height = h; passes = 0; added = 0; removed = 0; table = t } }
+entering j t (read.Refused r) = record { answer = Refused r; job = j }
 
 abbrev pub stepped : Outcome → Stepped
 stepped o = record { answer = o .answer; job = o .state .job }

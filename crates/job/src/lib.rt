@@ -13,12 +13,14 @@ ghost use Prim.Native.Nat.{min};
 ghost use lib.ListN.{length};
 ghost use Rattle.history.specs.Call.{view, figures, stateOf};
 ghost use Rattle.history.specs.Collect.{collectWritten, collectOutput, collectState};
-ghost use Rattle.history.specs.Load.{loadVerdict, loadState};
+ghost use Rattle.history.specs.Load.{admitRules, loadVerdict, loadState};
 ghost use Rattle.history.specs.Pass.{passOf};
 ghost use Rattle.history.specs.Run.{runOf};
+ghost use Rattle.history.specs.Source.{fromFile};
 ghost use Rattle.history.specs.State.{emptyJob, readyVerdict};
 ghost use Rattle.history.specs.View.{viewOf, figuresOf};
-ghost use Rattle.job.specs.Core.{at, loaded, stepped, emptied};
+ghost use Rattle.job.specs.Core.{at, loaded, entering, stepped, emptied};
+ghost use Rattle.verdict.specs.Rules.{judge};
 
 mod area;
 mod figure;
@@ -43,31 +45,50 @@ pub struct Emptied {
 
 // Load: 14, 15, table, sheet, 13. The image is read into the part of the first area that both areas have, so that 13 tests both.
 pub fn load_core(job: Job, table: Table, file: &[u8], first: &mut [u8], second: &[u8]) -> Loaded
-    ensures { λ r. ⌜ (r ≡ loaded (loadVerdict table (now (file .entry)) (at job (now (first .entry)) (now (second .entry))))
-        (loadState table (now (file .entry)) (at job (now (first .entry)) (now (second .entry)))))
-        × (now (first .exit) ≡ loadState table (now (file .entry)) (at job (now (first .entry)) (now (second .entry))) .first)
-        × (loadState table (now (file .entry)) (at job (now (first .entry)) (now (second .entry))) .second ≡ now (second .entry)) ⌝ }
+    ensures { λ r. ⌜ (r ≡ loaded (loadVerdict table (fromFile (now (file .entry))) (at job (now (first .entry)) (now (second .entry))))
+        (loadState table (fromFile (now (file .entry))) (at job (now (first .entry)) (now (second .entry)))))
+        × (now (first .exit) ≡ loadState table (fromFile (now (file .entry))) (at job (now (first .entry)) (now (second .entry))) .first)
+        × (loadState table (fromFile (now (file .entry))) (at job (now (first .entry)) (now (second .entry))) .second ≡ now (second .entry)) ⌝ }
 {
-    if sound::unsound(job, first, second) {
-        return Loaded {
-            answer: verdict::refused(verdict::UNSOUND, 0),
-            job,
-        };
-    }
-    if job.stage != sound::EMPTY {
-        return Loaded {
-            answer: verdict::refused(verdict::NOT_COLLECTED, 0),
-            job,
-        };
-    }
-    if let Verdict::Refused(refusal) = table::check(table) {
+    if let Verdict::Refused(refusal) = admit(job, table, first, second) {
         return Loaded {
             answer: Verdict::Refused(refusal),
             job,
         };
     }
     let both = lesser(first.len(), second.len());
-    match image::read(file, &mut first[..both]) {
+    enter(job, table, image::read(file, &mut first[..both]))
+}
+
+pub fn load(job: &mut Job, table: Table, file: &[u8], first: &mut [u8], second: &[u8]) -> Verdict
+    ensures { λ r. ⌜ (r ≡ loadVerdict table (fromFile (now (file .entry))) (at (now (job .entry)) (now (first .entry)) (now (second .entry))))
+        × (now (job .exit) ≡ loadState table (fromFile (now (file .entry))) (at (now (job .entry)) (now (first .entry)) (now (second .entry))) .job)
+        × (now (first .exit) ≡ loadState table (fromFile (now (file .entry))) (at (now (job .entry)) (now (first .entry)) (now (second .entry))) .first)
+        × (loadState table (fromFile (now (file .entry))) (at (now (job .entry)) (now (first .entry)) (now (second .entry))) .second ≡ now (second .entry)) ⌝ }
+{
+    let s = load_core(*job, table, file, first, second);
+    *job = s.job;
+    s.answer
+}
+
+// What does not depend on the source of the image: 14, 15, table.
+fn admit<'a>(job: Job, table: Table, first: &'a [u8], second: &'a [u8]) -> Verdict
+    ensures { λ r. ⌜ r ≡ judge (admitRules table (at job (now (first .entry)) (now (second .entry)))) ⌝ }
+{
+    if sound::unsound(job, first, second) {
+        return verdict::refused(verdict::UNSOUND, 0);
+    }
+    if job.stage != sound::EMPTY {
+        return verdict::refused(verdict::NOT_COLLECTED, 0);
+    }
+    table::check(table)
+}
+
+// The record after the reader of a source, which has filled the area.
+fn enter(job: Job, table: Table, read: ImageRead) -> Loaded
+    ensures { λ r. ⌜ r ≡ entering job table read ⌝ }
+{
+    match read {
         ImageRead::Size { width, height } => {
             let job = Job {
                 stage: sound::LOADED,
@@ -88,17 +109,6 @@ pub fn load_core(job: Job, table: Table, file: &[u8], first: &mut [u8], second: 
             job,
         },
     }
-}
-
-pub fn load(job: &mut Job, table: Table, file: &[u8], first: &mut [u8], second: &[u8]) -> Verdict
-    ensures { λ r. ⌜ (r ≡ loadVerdict table (now (file .entry)) (at (now (job .entry)) (now (first .entry)) (now (second .entry))))
-        × (now (job .exit) ≡ loadState table (now (file .entry)) (at (now (job .entry)) (now (first .entry)) (now (second .entry))) .job)
-        × (now (first .exit) ≡ loadState table (now (file .entry)) (at (now (job .entry)) (now (first .entry)) (now (second .entry))) .first)
-        × (loadState table (now (file .entry)) (at (now (job .entry)) (now (first .entry)) (now (second .entry))) .second ≡ now (second .entry)) ⌝ }
-{
-    let s = load_core(*job, table, file, first, second);
-    *job = s.job;
-    s.answer
 }
 
 fn lesser(a: usize, b: usize) -> usize

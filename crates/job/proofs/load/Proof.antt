@@ -43,6 +43,7 @@ use denote.Builtin.{u8}
 use denote.Struct.Laws as LL
 use denote.Enum.Laws as EL
 use Rattle.history.specs.Load.{loadVerdict, loadState}
+use Rattle.history.specs.Source.{fromFile}
 use Rattle.job.specs.Core.{at, loaded}
 use Rattle.history.specs.declared.Job.{Job as Rec}
 use Rattle.history.proofs.Job as T
@@ -103,7 +104,7 @@ module _ {M : Type 1} (𝓤 : URA M) (H : Heap 𝓤) (A : Atoms 𝓤) (W : Given
 
   -- what `load_core` ensures of its result and of the last lists
   abbrev Said : Res → List ℕ → Type 0
-  Said r first′ = (r ≡ loaded (loadVerdict table (file .now) (at job (first .now) (second .now))) (loadState table (file .now) (at job (first .now) (second .now)))) × (first′ ≡ loadState table (file .now) (at job (first .now) (second .now)) .first) × (loadState table (file .now) (at job (first .now) (second .now)) .second ≡ (second .now))
+  Said r first′ = (r ≡ loaded (loadVerdict table (fromFile (file .now)) (at job (first .now) (second .now))) (loadState table (fromFile (file .now)) (at job (first .now) (second .now)))) × (first′ ≡ loadState table (fromFile (file .now)) (at job (first .now) (second .now)) .first) × (loadState table (fromFile (file .now)) (at job (first .now) (second .now)) .second ≡ (second .now))
 
   abbrev to-callee : Callee 𝓤 H A at-mem run .Ghost
   to-callee = (((κ1, (κ2, (κ3, tt))), (q1, (q2, (q3, tt))), tt, (job, (table, (file, (first, (second, tt))))), (job-vals job, (LL.val X1.the-type X1′.the-laws table ∷ [], (slice-val file ∷ [], (slice-val first ∷ [], (slice-val second ∷ [], tt)))))), tt)
