@@ -2,7 +2,9 @@
 --     rest f i          the bytes of f from its number i on
 --     number f i        number i: 0 the count, then the elements, then the persistent element
 --     tableOf f         the record that the file's numbers make
---     countRules f, elementsRules f, persistentRules f, lastRules f    the rules on the count, the elements, the persistent element; 8, 5, 7
+--     bytesLeft f       bytes stand behind the persistent element
+--     countRules f, elementRules f k, elementsRules f, persistentRules f     1, 2 and the range rule: the count, element k, all elements, the persistent element
+--     lastRules f       8, 5, 7
 --     fileRules f       all of them, in their order
 --     fileVerdict f     accepted, or number and place
 --     readTable f       the reader's answer: a zero record where it is refused
@@ -48,7 +50,6 @@ bytesLeft f = not (eqb (length (rest f (number f 0 + 2))) 0)
 abbrev pub countRules : List ℕ → List Verdict
 countRules f = numberRules 0 f ++ countRule (tableOf f) ∷ []
 
--- of element k
 abbrev pub elementRules : List ℕ → ℕ → List Verdict
 elementRules f k = numberRules (suc k) (rest f (suc k)) ++ elementRule (tableOf f) k ∷ []
 

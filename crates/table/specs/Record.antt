@@ -4,6 +4,7 @@
 --     persistents t     the persistent elements (01: the keeper)
 --     disjointFrom t k  the lowest earlier element that shares no position with element k
 --     missing t k       some persistent element is not persistent for element k
+--     countRule t, placesRule t, elementRule t k, persistentRule t, meetRule t, persistRule t     3; 4, and at one element; 6; 5; 7
 --     recordRules t     the rules, in their order
 --     recordVerdict t   accepted, or number and place
 -- Assumes nothing.
@@ -67,7 +68,6 @@ missing t k = any (λ K. not (persistentFor K (element t k))) (persistents t)
 abbrev pub countRule : Table → Verdict
 countRule t = refuseIf (badCount t) 3 0
 
--- rule 4 on a record, and on one element of a file
 abbrev pub placesRule : Table → Verdict
 placesRule t = refuseAt (first (badPlace t) maxElements) 4 suc
 
