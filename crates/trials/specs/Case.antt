@@ -12,6 +12,7 @@ use Rattle.operator.specs.Pass.{opened}
 use Rattle.operator.specs.Plain.{plain}
 use Rattle.history.specs.declared.Job.{Job}
 use Rattle.history.specs.Call.{load, run}
+use Rattle.history.specs.Source.{fromFile}
 use Rattle.history.specs.Demand3.{played}
 use Rattle.history.specs.View.{viewOf}
 use Rattle.image.specs.File.{imageBytes}
@@ -57,7 +58,7 @@ meets (tableFile t f) = (isAccepted (recordVerdict t) && isAccepted (fileVerdict
 meets (fileRefused f n p) = refusedWith (fileVerdict f) n p
 meets (recordRefused t n p) = refusedWith (recordVerdict t) n p
 meets (rests t w h img end passes added removed) =
-    let s = played (load t (imageBytes w h img) ∷ run ∷ []) (replicate (w * h) 0) (replicate (w * h) 0) .state in
+    let s = played (load t (fromFile (imageBytes w h img)) ∷ run ∷ []) (replicate (w * h) 0) (replicate (w * h) 0) .state in
     countsAre (s .job) 2 passes added removed && sameList (viewOf s) end
 meets (notOpened t w h img v r c) = not (opened t w h img v r c)
 meets (plainInner t w h img n) =
