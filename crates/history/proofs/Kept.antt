@@ -28,9 +28,8 @@ use Rattle.history.proofs.Passes as passes
 use Rattle.history.proofs.Passes.{Way, way, changed}
 use Rattle.history.proofs.Ready.{ready-next}
 use Rattle.history.proofs.Runs.{goes-next, ends}
-use Rattle.image.specs.File.{pixelsOf}
+use Rattle.image.specs.File.{pixelsOf, imageOf}
 use Rattle.image.specs.Header.{widthOf, heightOf}
-use Rattle.image.specs.RoundTrip.{imageOf}
 use Rattle.seq.proofs.Lists.{clash, either}
 use Rattle.seq.proofs.Tab.{length-tab}
 use Rattle.seq.proofs.Tests.{or-none-left}

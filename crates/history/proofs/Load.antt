@@ -23,9 +23,8 @@ use Rattle.history.proofs.Related.{Held, RelatedTo}
 use Rattle.history.proofs.Row.{alone}
 use Rattle.history.proofs.Sound.{sound-empty, sound-held, stage-held}
 use Rattle.image.proofs.Facts.{accepted-file}
-use Rattle.image.specs.File.{fileVerdict}
+use Rattle.image.specs.File.{fileVerdict, imageOf}
 use Rattle.image.specs.Header.{widthOf, heightOf}
-use Rattle.image.specs.RoundTrip.{imageOf}
 use Rattle.seq.proofs.Lists.{clash}
 use Rattle.seq.proofs.Tests.{or-none-left, or-none-right}
 use Rattle.table.specs.declared.Table.{Table}

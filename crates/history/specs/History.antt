@@ -15,9 +15,8 @@ use Rattle.operator.specs.Image.{differs}
 use Rattle.operator.specs.Pass as filter
 use Rattle.history.specs.Call.{Call, load, pass, run, view, figures, collect}
 use Rattle.history.specs.Load.{areasRule}
-use Rattle.image.specs.File.{fileVerdict, imageBytes}
+use Rattle.image.specs.File.{fileVerdict, imageBytes, imageOf}
 use Rattle.image.specs.Header.{widthOf, heightOf}
-use Rattle.image.specs.RoundTrip.{imageOf}
 use Rattle.table.specs.declared.Table.{Table}
 use Rattle.table.specs.Record.{recordVerdict}
 use Rattle.verdict.specs.declared.Verdict.{Verdict}

@@ -10,9 +10,8 @@ use lib.Dec.{ltb, eqb}
 use lib.ListN.{length}
 use Rattle.history.specs.declared.Job.{Job}
 use Rattle.history.specs.State.{State, soundRule}
-use Rattle.image.specs.File.{fileVerdict}
+use Rattle.image.specs.File.{fileVerdict, imageOf}
 use Rattle.image.specs.Header.{widthOf, heightOf}
-use Rattle.image.specs.RoundTrip.{imageOf}
 use Rattle.table.specs.declared.Table.{Table}
 use Rattle.table.specs.Record.{recordVerdict}
 use Rattle.verdict.specs.declared.Verdict.{Verdict}

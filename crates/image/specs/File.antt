@@ -31,6 +31,9 @@ rasterPixel w r row col = getD r (row * rowBytes w + col / 8) 0 / 2 ^ (7 - col %
 unfoldable pub pixelsOf : ℕ → ℕ → List ℕ → List ℕ
 pixelsOf w h r = tab (λ i. rasterPixel w r (i / w) (i % w)) (w * h)
 
+unfoldable pub imageOf : List ℕ → List ℕ
+imageOf f = pixelsOf (widthOf f) (heightOf f) (raster f)
+
 unfoldable pub paddingSet : ℕ → List ℕ → ℕ → Bool
 paddingSet w r row = not (eqb (getD r (row * rowBytes w + (rowBytes w - 1)) 0 % 2 ^ (8 * rowBytes w - w)) 0)
 

@@ -16,9 +16,8 @@ use Rattle.history.specs.Load.{loadVerdict, loadedJob, loadState}
 use Rattle.history.specs.State.{State, unsound}
 use Rattle.image.specs.declared.ImageRead.{ImageRead}
 use Rattle.image.specs.declared.ImageRead.the-variants as reading
-use Rattle.image.specs.File.{fileVerdict, pixelsOf, imageVerdict, imageRead, imageArea, areaRule}
+use Rattle.image.specs.File.{fileVerdict, pixelsOf, imageVerdict, imageRead, imageArea, areaRule, imageOf}
 use Rattle.image.specs.Header.{widthOf, heightOf}
-use Rattle.image.specs.RoundTrip.{imageOf}
 use Rattle.job.specs.declared.Loaded.{Loaded}
 use Rattle.job.specs.Core.{loaded}
 use Rattle.seq.proofs.Tab.{length-tab}

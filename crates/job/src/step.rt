@@ -13,7 +13,7 @@ ghost use Rattle.history.specs.Pass.{passLoaded};
 ghost use Rattle.history.specs.Run.{runOf};
 ghost use Rattle.job.specs.Core.{at};
 ghost use Rattle.history.specs.Sound.{Ready};
-ghost use Rattle.job.specs.Ready.{Computed, Made};
+ghost use Rattle.job.specs.Code.Ready.{Computed, Made};
 
 const MAX_PIXELS: usize = sound::MAX_SIDE * sound::MAX_SIDE;
 

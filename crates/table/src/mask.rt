@@ -9,8 +9,8 @@ ghost use mathlib.Core.Bool.{not, _&&_};
 ghost use mathlib.Core.Path.{_≡_};
 ghost use Prim.Native.Nat.{ℕ, _<_, _^_};
 ghost use Rattle.seq.specs.Bits.{bit};
+ghost use Rattle.table.specs.Code.Search.{found, badAfter};
 ghost use Rattle.table.specs.Mask.{validMask, sumInside, sum, partner, unpartnered};
-ghost use Rattle.table.specs.Search.{found, badAfter};
 
 // What a search answers: the lowest that it looked for.
 pub(crate) enum Search {

@@ -8,8 +8,8 @@ ghost use Prim.Native.Nat.{_<_, _^_};
 ghost use lib.ListN.{getD};
 ghost use Rattle.seq.specs.Lists.{isSome};
 ghost use Rattle.seq.specs.Tab.{first};
+ghost use Rattle.table.specs.Code.Search.{found, badNumber, lowestBad, InRange};
 ghost use Rattle.table.specs.Record.{badPlace, disjointFrom, missing, meetRule, persistRule};
-ghost use Rattle.table.specs.Search.{found, badNumber, lowestBad, InRange};
 ghost use Rattle.verdict.specs.Rules.{orElse};
 
 const MAX_ELEMENTS: usize = 64;

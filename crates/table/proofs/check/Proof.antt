@@ -6,9 +6,9 @@ use mathlib.Core.Path.{_≡_, sym, ap, _∙_}
 use native.Mathlib.Omega.{arith}
 use borrow.Author.Needs.{needs}
 use borrow.Author.Tests.{not-false}
+use Rattle.table.specs.Code.Search.{found, badNumber, lowestBad}
 use Rattle.table.specs.Mask.{validMask}
 use Rattle.table.specs.Record.{badPlace}
-use Rattle.table.specs.Search.{found, badNumber, lowestBad}
 use Rattle.table.proofs.Positions.{mask-lt}
 use Rattle.table.proofs.Verdicts.{search-lt, count-le, record-count, record-place, record-persistent, record-relations}
 use Rattle.table.proofs.check.Statement.{statement}

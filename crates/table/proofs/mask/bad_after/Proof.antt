@@ -4,7 +4,7 @@ use mathlib.Core.Bool.{not}
 use mathlib.Core.Path.{sym, ap, _∙_}
 use borrow.Author.Needs.{needs}
 use Rattle.seq.proofs.Bits.{bit-one, bit-none}
-use Rattle.table.specs.Search.{badAfter}
+use Rattle.table.specs.Code.Search.{badAfter}
 use Rattle.table.proofs.mask.bad_after.Statement.{statement}
 use Rattle.table.proofs.mask.bad_after.Tie as tie
 

@@ -5,9 +5,9 @@ use mathlib.Core.Path.{sym, ap, _∙_}
 use borrow.Author.Needs.{needs}
 use borrow.Author.Tests.{not-false}
 use Rattle.table.specs.declared.Table.{Table}
+use Rattle.table.specs.Code.Search.{lowestBad}
 use Rattle.table.specs.File.{readAs}
 use Rattle.table.specs.Record.{meetRule, persistRule}
-use Rattle.table.specs.Search.{lowestBad}
 use Rattle.table.proofs.Files.{last-by, last-number, last-range, last-bytes, last-relations, last-table}
 use Rattle.table.proofs.Positions.{mask-lt}
 use Rattle.verdict.specs.Rules.{orElse}

@@ -2,7 +2,7 @@
 -- Assumes nothing.
 use borrow.Author.Tests.{le-leb, lt-leb, lt-ltb}
 use Rattle.seq.proofs.Tests.{lt-not-le}
-use Rattle.table.specs.Search.{badNumber}
+use Rattle.table.specs.Code.Search.{badNumber}
 use Rattle.table.proofs.record.bad_count.Statement.{statement}
 use Rattle.table.proofs.record.bad_count.Tie as tie
 

@@ -5,8 +5,8 @@ use Prim.Native.Nat.{_-_}
 use native.Mathlib.Omega.{arith}
 use borrow.Author.Needs.{needs}
 use Rattle.seq.proofs.Search.{Passed, passed-none, passed-more, passed-found, passed-all}
+use Rattle.table.specs.Code.Search.{lowestBad}
 use Rattle.table.specs.Record.{badPlace}
-use Rattle.table.specs.Search.{lowestBad}
 use Rattle.table.proofs.record.first_bad_place.Statement.{statement}
 use Rattle.table.proofs.record.first_bad_place.Tie as tie
 
