@@ -1,4 +1,6 @@
 -- 01, demand 2: tables and sheets written and read back are the same, and accepted files written back have the same bytes.
+--     table-back, table-file-back, table-read-checked     tables
+--     image-accepted, image-size, image-back, image-file-back, image-read-checked     images
 -- Assumes nothing.
 use mathlib.Core.Bool.{true}
 use mathlib.Core.List.{List}

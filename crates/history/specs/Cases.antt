@@ -9,12 +9,12 @@ use mathlib.Core.Path.{_≡_, refl}
 use Prim.Native.Nat.{ℕ}
 use lib.ListN.{replicate}
 use Rattle.operator.specs.Image.{black}
+use Rattle.operator.specs.Samples.{ring}
 use Rattle.history.specs.Call.{Call, load, pass, run, collect, answerOf, refusalOf}
 use Rattle.history.specs.History.{History, empty, holds}
 use Rattle.history.specs.Lists.{Course, start, step}
 use Rattle.history.specs.View.{viewOf}
 use Rattle.seq.specs.Lists.{sameList}
-use Rattle.table.specs.declared.Table.{Table}
 use Rattle.verdict.specs.declared.Verdict.{Verdict}
 use Rattle.verdict.specs.declared.Verdict.the-variants.{Accepted, Refused}
 
@@ -42,26 +42,22 @@ abbrev trace : List Call → Course → List ℕ
 trace [] w = []
 trace (c ∷ cs) w = row c w ++ trace cs (step c w)
 
--- the eight neighbours, 2 × 2
-abbrev ring : Table
-ring = record { count = 1; elements = 469440 ∷ replicate 63 0; persistent = 405504 }
-
--- 5 × 5, black only at (2, 2)
-abbrev dot : List ℕ
-dot = 0x50 ∷ 0x34 ∷ 0x0A ∷ 0x35 ∷ 0x20 ∷ 0x35 ∷ 0x0A ∷ 0x00 ∷ 0x00 ∷ 0x20 ∷ 0x00 ∷ 0x00 ∷ []
+-- the file of 5 × 5 pixels, black only at (2, 2)
+abbrev dotFile : List ℕ
+dotFile = 0x50 ∷ 0x34 ∷ 0x0A ∷ 0x35 ∷ 0x20 ∷ 0x35 ∷ 0x0A ∷ 0x00 ∷ 0x00 ∷ 0x20 ∷ 0x00 ∷ 0x00 ∷ []
 
 abbrev calls : List Call
 calls =
     pass
-    ∷ load ring dot
-    ∷ load ring dot
+    ∷ load ring dotFile
+    ∷ load ring dotFile
     ∷ collect (replicate 12 0)
     ∷ pass
     ∷ pass
     ∷ pass
     ∷ collect (replicate 11 0)
     ∷ collect (replicate 12 0)
-    ∷ load ring dot
+    ∷ load ring dotFile
     ∷ run
     ∷ []
 

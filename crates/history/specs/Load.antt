@@ -1,7 +1,9 @@
 -- Load (01): 14, 15, table, sheet, 13; then the image in the first area, stage 1, counts 0.
+--     areasRule f n m      13: both areas are tested
 --     loadRules t f s      what a load is refused by, in 01's order
 --     loadVerdict t f s    accepted, or number and place
---     loadState t f s      record and areas afterwards: the second area stays
+--     loadedJob t f        the record afterwards
+--     loadState t f s      record and areas afterwards: the second area stays; loadAs v t f s: by the verdict
 -- Assumes nothing.
 use mathlib.Core.Bool.{not, _||_}
 use mathlib.Core.List.{List, [], _∷_}
@@ -19,7 +21,6 @@ use Rattle.verdict.specs.declared.Verdict.the-variants.{Accepted, Refused}
 use Rattle.verdict.specs.Rules.{refuseIf, judge}
 use Rattle.verdict.specs.Writer.{over}
 
--- 13: both areas are tested
 abbrev pub areasRule : List ℕ → ℕ → ℕ → Verdict
 areasRule f n m = refuseIf (ltb n (widthOf f * heightOf f) || ltb m (widthOf f * heightOf f)) 13 0
 

@@ -1,39 +1,18 @@
 -- 01's cases marked (P), as one list, and one theorem that the checker computes over the list.
---     ring, cross      01's two tables
 --     cases            the cases
 --     cases-met        the definitions give what each expects
 -- Assumes nothing.
 use mathlib.Core.Bool.{true}
-use mathlib.Core.List.{List, [], _∷_, _++_}
+use mathlib.Core.List.{List, [], _∷_}
 use mathlib.Core.Path.{_≡_, refl}
-use Prim.Native.Nat.{ℕ, _+_, _-_, _/_, _%_}
 use lib.ListN.{replicate}
+use Rattle.operator.specs.Samples.{oneElement, ring, cross, dot, chessboard}
 use Rattle.seq.specs.Lists.{all}
-use Rattle.seq.specs.Tab.{tab}
 use Rattle.table.specs.declared.Table.{Table}
 use Rattle.trials.specs.Case.{Case, tableFile, fileRefused, recordRefused, rests, notOpened, plainInner, meets}
 
--- a table of one element
-abbrev oneElement : ℕ → ℕ → Table
-oneElement e K = record { count = 1; elements = e ∷ replicate 63 0; persistent = K }
-
--- the eight neighbours, 2 × 2
-abbrev ring : Table
-ring = oneElement 469440 405504
-
--- the four neighbours, two side by side
-abbrev cross : Table
-cross = oneElement 141440 12288
-
 abbrev disjoint : Table
 disjoint = record { count = 2; elements = 2048 ∷ 8192 ∷ replicate 62 0; persistent = 12288 }
-
--- n pixels, black only at pixel i
-abbrev dot : ℕ → ℕ → List ℕ
-dot n i = replicate i 0 ++ 1 ∷ replicate (n - i - 1) 0
-
-abbrev chessboard : List ℕ
-chessboard = tab (λ i. (i / 6 + i % 6) % 2) 36
 
 abbrev pub cases : List Case
 cases =
