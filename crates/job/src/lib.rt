@@ -48,7 +48,7 @@ pub fn load_core(job: Job, table: Table, file: &[u8], first: &mut [u8], second: 
         × (now (first .exit) ≡ loadState table (now (file .entry)) (at job (now (first .entry)) (now (second .entry))) .first)
         × (loadState table (now (file .entry)) (at job (now (first .entry)) (now (second .entry))) .second ≡ now (second .entry)) ⌝ }
 {
-    if sound::unsound(job, first, second) {
+    if sound::is_unsound(job, first, second) {
         return Loaded {
             answer: verdict::refused(verdict::UNSOUND, 0),
             job,

@@ -121,5 +121,5 @@ fn exceeds(pixels: usize, passes: usize, added: usize, removed: usize) -> bool
     if pixels <= passes {
         return true;
     }
-    sound::sum_above(pixels, added, removed)
+    sound::is_sum_above(pixels, added, removed)
 }

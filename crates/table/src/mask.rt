@@ -38,17 +38,17 @@ const COLUMNS: [u64; 5] = [
     0b00111 * EACH_ROW,
 ];
 
-pub(crate) fn valid(mask: u32) -> bool
+pub(crate) fn is_valid(mask: u32) -> bool
     ensures { λ r. ⌜ r ≡ validMask mask ⌝ }
 {
     1 <= mask && mask <= LARGEST
 }
 
 // Rule 4 on an element, after the element before it (0 where there is none).
-pub(crate) fn bad_after(before: u32, element: u32) -> bool
+pub(crate) fn is_bad_after(before: u32, element: u32) -> bool
     ensures { λ r. ⌜ r ≡ badAfter before element ⌝ }
 {
-    if !valid(element) {
+    if !is_valid(element) {
         return true;
     }
     if (element >> CENTRE) % 2 == 1 {

@@ -7,8 +7,8 @@ use Rattle.job.proofs.Loads.{unsound-load, full-load, bad-table, read-i
 use Rattle.job.proofs.load_core.Statement.{statement}
 use Rattle.job.proofs.load_core.Tie as tie
 
-unsound-requires : tie.Need-unsound-requires
-unsound-requires c κs = tt
+is-unsound-requires : tie.Need-is-unsound-requires
+is-unsound-requires c κs = tt
 
 refused-requires : tie.Need-refused-requires
 refused-requires c κs = tt
@@ -19,7 +19,7 @@ same-length c = refl
 returns : tie.Need-returns
 returns c =
     let test = c .before in
-    rw (c .refused .ensures) (unsound-load _ _ _ (sym (test .before .unsound .ensures) ∙ test .if1 .taken))
+    rw (c .refused .ensures) (unsound-load _ _ _ (sym (test .before .is-unsound .ensures) ∙ test .if1 .taken))
 
 refused-requires-2 : tie.Need-refused-requires-2
 refused-requires-2 c κs = tt
@@ -31,7 +31,7 @@ returns-2 : tie.Need-returns-2
 returns-2 c =
     let stage = c .before in
     let test = stage .before .before in
-    rw (c .refused2 .ensures) (full-load _ _ _ (sym (test .before .unsound .ensures) ∙ test .if1 .left) (stage .if2 .taken))
+    rw (c .refused2 .ensures) (full-load _ _ _ (sym (test .before .is-unsound .ensures) ∙ test .if1 .left) (stage .if2 .taken))
 
 check-requires : tie.Need-check-requires
 check-requires c κs = tt
@@ -47,7 +47,7 @@ returns-3 c =
     let check = c .before .before .before in
     let stage = check .before in
     let test = stage .before .before in
-    bad-table _ _ _ (sym (test .before .unsound .ensures) ∙ test .if1 .left) (stage .if2 .left)
+    bad-table _ _ _ (sym (test .before .is-unsound .ensures) ∙ test .if1 .left) (stage .if2 .left)
     (sym (check .check .ensures) ∙ c .before .refusal .given .1)
 
 enum-told : tie.Need-enum-told
@@ -82,7 +82,7 @@ returns-4 c =
     let check = told .before .before in
     let stage = check .before in
     let test = stage .before .before in
-    read-in _ _ _ (sym (test .before .unsound .ensures) ∙ test .if1 .left) (stage .if2 .left)
+    read-in _ _ _ (sym (test .before .is-unsound .ensures) ∙ test .if1 .left) (stage .if2 .left)
     (sym (check .check .ensures) ∙ told .enum-told .given .1) (lesser .lesser .ensures) (read .read .ensures .0) (read .read .ensures .1)
     (c .before .width .given .1)
 
@@ -97,7 +97,7 @@ returns-5 c =
     let check = told .before .before in
     let stage = check .before in
     let test = stage .before .before in
-    unread _ _ _ (sym (test .before .unsound .ensures) ∙ test .if1 .left) (stage .if2 .left)
+    unread _ _ _ (sym (test .before .is-unsound .ensures) ∙ test .if1 .left) (stage .if2 .left)
     (sym (check .check .ensures) ∙ told .enum-told .given .1) (lesser .lesser .ensures) (read .read .ensures .0) (read .read .ensures .1)
     (c .before .refusal2 .given .1)
 
@@ -105,7 +105,7 @@ pub load-core-spec : {M : Type 1} → statement M
 load-core-spec =
     tie.close
     (tie.spec
-    unsound-requires
+    is-unsound-requires
     refused-requires
     same-length
     returns
