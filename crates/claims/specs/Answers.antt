@@ -1,5 +1,9 @@
 -- 01: where an answer is an enum, a definition gives number and values for each case. What each answer refuses by is the verdict of its rules,
 -- and in a refused answer every value is zero. (For the calls on a job: Demand1.)
+--     table-read-refuses, table-read-zero         the table reader
+--     table-write-refuses, image-write-refuses, written-zero     the writers
+--     image-read-refuses, image-read-zero         the image reader
+--     pass-refuses                                one pass over slices
 -- Assumes nothing.
 use mathlib.Core.List.{List}
 use mathlib.Core.Path.{_≡_, refl}

@@ -1,4 +1,11 @@
 -- 01, demand 1: for every record (made by whomever), two areas and call.
+--     pass-refused, run-refused, view-refused, figures-refused, collect-refused, unaltered     a refused call
+--     run-ends, run-answers     a run
+--     unsound-refused, not-collected-refused, nothing-loaded-refused, not-at-rest-refused     14 to 17, each under its condition
+--     by-cause, by-state        and under no other
+--     pass-overruns, run-overruns     14's pass clause
+--     load-refused-by, collect-refused-by     refused because of the input
+--     lengths-kept, past-kept, load-second     what a call leaves of the areas
 -- Assumes nothing.
 use mathlib.Core.Bool.{true, false}
 use mathlib.Core.List.{List, [], _∷_}

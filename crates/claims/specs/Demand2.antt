@@ -1,5 +1,7 @@
 -- 01, demand 2: each pass gives exactly the operator's image, and reports rest exactly when the operator changes nothing. The round trips of
 -- files are in Files.
+--     pass-image, pass-reports, pass-answers     a sound record at stage 1, made by whomever
+--     listed-image, listed-reports               after every list of calls
 -- Assumes nothing.
 use mathlib.Core.List.{List}
 use mathlib.Core.Logic.{_↔_, _⊎_}

@@ -1,4 +1,13 @@
 -- 01, demand 3: every list of calls from an empty job with two areas of any length and bytes.
+--     course cs a b, state cs a b, lengths a b     what a list of calls leaves, and the areas' lengths at its start
+--     lengths-kept, stage-empty, stage-settled, inside     after every list, and after each pass inside a run
+--     answered-by-history, refused-by-history, never-14, refused-unaltered     the next call, whatever it is
+--     table, width, height, table-accepted, size-accepted, last-image, view-last     record, areas and entry agree
+--     passes, added-counts, removed-counts, balance, changes-once, steps-bound, passes-accepted     the counts, and what bounds them
+--     pass-answer, view-answer, figures-answer, collect-answer, run-answer, run-as-passes     what each call answers
+--     rest-view, rest-counts, rest-answers     a stable image that was loaded
+--     reload-accepted, reload-view, reload-counts, reload-answers     what an accepted collect wrote, loaded again
+--     exchanged, ordered     two jobs with one table and one size
 -- Assumes nothing.
 use mathlib.Core.Bool.{true, false}
 use mathlib.Core.List.{List}
@@ -29,7 +38,6 @@ use Rattle.verdict.specs.declared.Verdict.the-variants.{Accepted, Refused}
 use Rattle.verdict.specs.declared.Written.the-variants.{Length}
 use Rattle.verdict.specs.Writer.{over}
 
--- what a list of calls leaves, and the areas' lengths at its start
 abbrev pub course : List Call → List ℕ → List ℕ → Course
 course cs a b = play cs (start a b)
 

@@ -1,4 +1,6 @@
 -- 01, demand 2: tables and sheets written and read back are the same, and accepted files written back have the same bytes.
+--     table-back, table-file-back, table-read-checked     tables
+--     image-accepted, image-size, image-back, image-file-back, image-read-checked     images
 -- Assumes nothing.
 use mathlib.Core.Bool.{true}
 use mathlib.Core.List.{List}
@@ -9,7 +11,6 @@ use lib.Pow.{areBytes}
 use Rattle.image.proofs.RoundTrip.{image-round-trip}
 use Rattle.image.specs.File as image
 use Rattle.image.specs.Header.{widthOf, heightOf}
-use Rattle.image.specs.RoundTrip.{imageOf}
 use Rattle.table.proofs.RoundTrip.{table-round-trip}
 use Rattle.table.specs.declared.Table.{Table}
 use Rattle.table.specs.File.{tableOf, fileVerdict, tableBytes}
@@ -33,13 +34,13 @@ module _ (w h : ℕ) (px : List ℕ) (ok : image.pixelVerdict w h px ≡ Accepte
   pub image-size : (widthOf (image.imageBytes w h px) ≡ w) × (heightOf (image.imageBytes w h px) ≡ h)
   image-size = (image-round-trip .image-back w h px ok .width, image-round-trip .image-back w h px ok .height)
 
-  pub image-back : imageOf (image.imageBytes w h px) ≡ px
+  pub image-back : image.imageOf (image.imageBytes w h px) ≡ px
   image-back = image-round-trip .image-back w h px ok .pixels
 
 pub image-file-back : (f : List ℕ) → areBytes f ≡ true → image.fileVerdict f ≡ Accepted
-    → image.imageBytes (widthOf f) (heightOf f) (imageOf f) ≡ f
+    → image.imageBytes (widthOf f) (heightOf f) (image.imageOf f) ≡ f
 image-file-back = image-round-trip .file-back
 
 pub image-read-checked : (f : List ℕ) → image.fileVerdict f ≡ Accepted
-    → image.pixelVerdict (widthOf f) (heightOf f) (imageOf f) ≡ Accepted
+    → image.pixelVerdict (widthOf f) (heightOf f) (image.imageOf f) ≡ Accepted
 image-read-checked = image-round-trip .read-checked

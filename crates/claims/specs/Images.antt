@@ -1,4 +1,11 @@
 -- 01, One pass and demand 3, on images: for every accepted table, size and image.
+--     pass-is-image, pass-is-modified, plain-is-psi, opened-stays     one pass
+--     changes-once, black-balance, changes-bound, changing-passes     its changes, over any number of passes
+--     rests, rests-first, stays           the first image that a pass leaves as it is
+--     exchanged, rest-exchanged           colours exchanged
+--     ordered, rest-ordered               an image that is black wherever the first is
+--     preview-is-plain                    the preview is the plain rule of the 56 five-point subsets of the eight neighbours
+--     again-answers, again-fills          a pass over slices with a table that was judged before
 -- Assumes nothing.
 use mathlib.Core.Bool.{true, false}
 use mathlib.Core.List.{List}
@@ -81,7 +88,6 @@ module _ (t : Table) (w h : ℕ) (img : List ℕ) (ok : recordVerdict t ≡ Acce
     pub rest-ordered : (k : ℕ) → k < length (rested t w h img) → getD (rested t w h img) k 0 ≤ getD (rested t w h other) k 0
     rest-ordered = all-rest t w h ok .ordered img other i j below
 
--- the preview is the plain rule of the 56 five-point subsets of the eight neighbours
 pub preview-is-plain : (w h : ℕ) (img : List ℕ) → IsImage w h img → preview w h img ≡ plain medianTable w h img
 preview-is-plain = preview-plain
 

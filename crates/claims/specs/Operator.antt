@@ -1,4 +1,10 @@
 -- The operator theory over any set of sites (000, sections 4 to 6; 01, demand 3), for every lawful system.
+--     changes-once, changes-are-distance, changing-passes     what changes
+--     exchanged, ordered                        over any number of passes
+--     rests, stays, rests-first, rest-exchanged, rest-ordered     the first image that a pass leaves as it is
+--     pass-is-modified, plain-is-psi            the report's formulas
+--     psi-increasing, psi-self-dual             ψ
+--     alpha-increasing, alpha-idempotent, alpha-below-identity, alpha-below-psi     α
 -- Assumes nothing.
 use mathlib.Core.Bool.{true, not}
 use mathlib.Core.List.{List}

@@ -23,7 +23,7 @@ use Rattle.seq.proofs.Bits.{all-and}
 use Rattle.seq.proofs.Lists.{or-left, any-ext, any-none, all-elim}
 use Rattle.seq.proofs.Tests.{between}
 use Rattle.table.specs.Mask.{largestMask, positions, validMask}
-use Rattle.filter.specs.Elements.{matched}
+use Rattle.filter.specs.Code.Elements.{matched}
 use Rattle.operator.proofs.Pattern.{bits-tab}
 use Rattle.operator.specs.Preview.{fromBits}
 use Rattle.operator.specs.Window.{windowAt}

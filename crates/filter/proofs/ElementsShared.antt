@@ -10,9 +10,9 @@ use Rattle.seq.specs.Bits.{bit}
 use Rattle.seq.specs.Lists.{all}
 use Rattle.seq.proofs.Lists.{clash, not-true-false, any-none, all-elim}
 use Rattle.table.specs.Mask.{positions}
-use Rattle.filter.specs.Elements.{matched, Shared}
+use Rattle.filter.specs.Code.Elements.{matched, Shared}
 use Rattle.operator.specs.Image.{pixel}
-use Rattle.filter.specs.Walk.{turns}
+use Rattle.filter.specs.Code.Walk.{turns}
 use Rattle.operator.specs.Window.{siteRow, siteCol, window, windowAt}
 use Rattle.table.proofs.Masks.{position-intro}
 use Rattle.operator.proofs.Window.{window-at}

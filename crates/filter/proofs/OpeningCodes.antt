@@ -19,7 +19,7 @@ use lib.ListN.{getD}
 use Rattle.seq.specs.Bits.{bit}
 use Rattle.seq.specs.Lists.{all, one}
 use Rattle.seq.proofs.Lists.{either, and-left, and-right, one-le}
-use Rattle.filter.specs.Erosion.{colours}
+use Rattle.filter.specs.Code.Erosion.{colours}
 
 pub binary-at : (l : List ℕ) → all (λ v. leb v 1) l ≡ true → (i : ℕ) → getD l i 0 ≤ 1
 binary-at [] h i = omega arith

@@ -22,7 +22,7 @@ use Rattle.table.specs.Mask.{down, positions}
 use Rattle.seq.proofs.Lists.{any-ext}
 use Rattle.seq.proofs.Fronts.{any-snoc, all-snoc}
 use Rattle.seq.proofs.Loops.{bits-set, bits-clear}
-use Rattle.filter.specs.Erosion.{colours, places, margin, shift, span, eroded, spread, openedIn, openedBy, joined, Codes, Coded}
+use Rattle.filter.specs.Code.Erosion.{colours, places, margin, shift, span, eroded, spread, openedIn, openedBy, joined, Codes, Coded}
 use Rattle.filter.proofs.OpeningCodes.{colours-ext, colours-small, bit-colours, code-colours, and-colours, or-colours}
 
 pub rows-span : (s b : ℕ) → b < places → down b * s ≤ margin * s

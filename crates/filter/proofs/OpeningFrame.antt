@@ -17,7 +17,7 @@ use lib.Dec.{leb, ltb, eqb}
 use lib.ListN.{getD}
 use Rattle.seq.specs.Loops.{Swept}
 use Rattle.seq.proofs.Tests.{lt-or-le}
-use Rattle.filter.specs.Erosion.{colours, margin, stride, span, within, framedIs, Framed}
+use Rattle.filter.specs.Code.Erosion.{colours, margin, stride, span, within, framedIs, Framed}
 use Rattle.operator.specs.Image.{pixel, IsImage}
 use Rattle.filter.proofs.OpeningCodes.{binary-at, colours-ext, pixel-colours}
 

@@ -26,9 +26,9 @@ use Rattle.table.specs.declared.Table.{Table}
 use Rattle.table.specs.Mask.{across, down, positions}
 use Rattle.table.specs.Record.{persistents}
 use Rattle.verdict.specs.Writer.{over}
-use Rattle.filter.specs.Erosion.{maxWidth, maxHeight, Openable, colours, places, margin, stride, shift, span, within, framedIs, Framed, eroded, openedIn, openedBy, Coded}
+use Rattle.filter.specs.Code.Erosion.{maxWidth, maxHeight, Openable, colours, places, margin, stride, shift, span, within, framedIs, Framed, eroded, openedIn, openedBy, Coded}
 use Rattle.operator.specs.Image.{pixel}
-use Rattle.filter.specs.OpeningMap.{openCode, openMap}
+use Rattle.filter.specs.Code.OpeningMap.{openCode, openMap}
 use Rattle.operator.specs.Pass.{placed, fits, inside, solid, opened}
 use Rattle.filter.proofs.OpeningCodes.{colours-ext, bit-colours}
 

@@ -24,11 +24,11 @@ use Rattle.verdict.specs.Writer.{over}
 use Rattle.verdict.proofs.Rules.{orElse-left, orElse-right, refuseIf-accepted}
 use Rattle.filter.specs.declared.Filtered.{Filtered}
 use Rattle.filter.specs.declared.Filtered.the-variants as filtering
-use Rattle.filter.specs.Applied.{passVerdict, filtered, filteredArea, switched, rangeVerdict, againVerdict, again, againArea, Again, AllAgain}
+use Rattle.filter.specs.Applied.{passVerdict, filtered, filteredArea, switched, rangeVerdict, againVerdict, again, againArea, Again, AllAgain, ranged}
 use Rattle.operator.specs.Image.{IsImage}
-use Rattle.filter.specs.OpeningMap.{openMap}
+use Rattle.filter.specs.Code.OpeningMap.{openMap}
 use Rattle.operator.specs.Pass.{pass}
-use Rattle.filter.specs.Walk.{ranged, walked, Tallied}
+use Rattle.filter.specs.Code.Walk.{walked, Tallied}
 use Rattle.filter.proofs.PassCodeChecks.{accepted-ranged}
 use Rattle.filter.proofs.PassCodeExact.{walked-switched, steps-added, steps-removed, switched-pass}
 use Rattle.filter.proofs.PreviewLaws.{checked-image}

@@ -19,8 +19,8 @@ use Rattle.table.specs.Mask.{validMask}
 use Rattle.table.specs.Record.{maxElements, masks, recordVerdict}
 use Rattle.verdict.specs.declared.Verdict.the-variants.{Accepted}
 use Rattle.verdict.specs.Writer.{over}
-use Rattle.filter.specs.OpeningMap.{openMap}
-use Rattle.filter.specs.Walk.{ranged}
+use Rattle.filter.specs.Applied.{ranged}
+use Rattle.filter.specs.Code.OpeningMap.{openMap}
 use Rattle.table.proofs.Facts.{accepted-table}
 
 -- the table's ranges, from its count and its element places

@@ -23,11 +23,11 @@ use Rattle.table.specs.Mask.{across, down, positions}
 use Rattle.table.specs.Record.{masks, recordVerdict}
 use Rattle.verdict.specs.declared.Verdict.the-variants.{Accepted}
 use Rattle.filter.specs.Applied.{switches, switchedAt, switched}
-use Rattle.filter.specs.Elements.{matched}
+use Rattle.filter.specs.Code.Elements.{matched}
 use Rattle.operator.specs.Image.{pixel, IsImage, added, removed}
-use Rattle.filter.specs.OpeningMap.{openCode, openMap}
+use Rattle.filter.specs.Code.OpeningMap.{openCode, openMap}
 use Rattle.operator.specs.Pass.{opened, held, passAt, pass}
-use Rattle.filter.specs.Walk.{turns, walkedAt, walked, steps}
+use Rattle.filter.specs.Code.Walk.{turns, walkedAt, walked, steps}
 use Rattle.operator.specs.Window.{siteRow, siteCol, window, windowAt}
 use Rattle.operator.proofs.Kept.{opened-pixel, opened-kept}
 use Rattle.table.proofs.Masks.{position-elim}

@@ -26,7 +26,7 @@ use Rattle.seq.proofs.Loops.{sweep-none, sweep-more, sweep-end, sweep-join, swe
 use Rattle.seq.proofs.Tab.{length-tab}
 use Rattle.verdict.specs.Writer.{over}
 use Rattle.operator.specs.Image.{pixel}
-use Rattle.filter.specs.Walk.{Opened, Copied, walkedAt, walked, Tallied}
+use Rattle.filter.specs.Code.Walk.{Opened, Copied, walkedAt, walked, Tallied}
 use Rattle.filter.proofs.PassCodeWalk.{opened-stays, tally-none, tally-more}
 
 module _ {codes : List ℕ} {s : ℕ} where

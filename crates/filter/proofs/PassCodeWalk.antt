@@ -15,9 +15,9 @@ use Rattle.seq.specs.Tab.{upTo}
 use Rattle.seq.proofs.Grid.{grid-at}
 use Rattle.seq.proofs.Lists.{count-le}
 use Rattle.seq.proofs.Tab.{length-upTo, count-upTo}
-use Rattle.filter.specs.Elements.{matched}
+use Rattle.filter.specs.Code.Elements.{matched}
 use Rattle.operator.specs.Image.{pixel}
-use Rattle.filter.specs.Walk.{turns, walkedAt, steps, Tallied}
+use Rattle.filter.specs.Code.Walk.{turns, walkedAt, steps, Tallied}
 use Rattle.operator.specs.Window.{window}
 
 module _ (es : List ℕ) (w h : ℕ) (codes : List ℕ) (r c v : ℕ) where

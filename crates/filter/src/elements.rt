@@ -6,7 +6,7 @@ ghost use Prim.Native.Nat.{ℕ, _≤_, _<_};
 ghost use lib.Bits.{bitAnd};
 ghost use lib.Dec.{eqb};
 ghost use lib.ListN.{getD};
-ghost use Rattle.filter.specs.Elements.{matched, Shared};
+ghost use Rattle.filter.specs.Code.Elements.{matched, Shared};
 ghost use Rattle.operator.specs.Preview.{fromBits};
 ghost use Rattle.operator.specs.Window.{windowAt};
 ghost use Rattle.seq.specs.Bits.{bit};

@@ -1,4 +1,4 @@
-// The opening map (01, One pass: which pixels are covered, for each value). specs/Erosion.antt explains the way.
+// The opening map (01, One pass: which pixels are covered, for each value). specs/Code/Erosion.antt explains the way.
 use table::Table;
 ghost use mathlib.Core.Bool.{true};
 ghost use mathlib.Core.Path.{_≡_};
@@ -6,9 +6,9 @@ ghost use Prim.Native.Nat.{_+_, _-_, _*_, _/_, _%_, _^_, _≤_, _<_};
 ghost use lib.Bits.{bitAnd, bitOr};
 ghost use lib.Dec.{leb};
 ghost use lib.ListN.{length, getD};
-ghost use Rattle.filter.specs.Erosion.{Openable, Framed, Codes, Coded, places, margin, stride, shift, span, eroded, spread, openedIn, joined};
+ghost use Rattle.filter.specs.Code.Erosion.{Openable, Framed, Codes, Coded, places, margin, stride, shift, span, eroded, spread, openedIn, joined};
 ghost use Rattle.operator.specs.Image.{IsImage};
-ghost use Rattle.filter.specs.OpeningMap.{openMap};
+ghost use Rattle.filter.specs.Code.OpeningMap.{openMap};
 ghost use Rattle.seq.specs.Bits.{bit};
 ghost use Rattle.seq.specs.Lists.{all};
 ghost use Rattle.seq.specs.Loops.{Swept};

@@ -9,9 +9,8 @@ use Prim.Native.Nat.{ℕ}
 use borrow.Author.Tests.{leb-true, le-ltb}
 use lib.Dec.{leb, ltb}
 use Rattle.image.proofs.Facts.{accepted-file}
-use Rattle.image.specs.File.{fileVerdict}
+use Rattle.image.specs.File.{fileVerdict, imageOf}
 use Rattle.image.specs.Header.{widthOf, heightOf}
-use Rattle.image.specs.RoundTrip.{imageOf}
 use Rattle.operator.specs.Image.{IsImage}
 use Rattle.seq.specs.Lists.{any}
 use Rattle.seq.proofs.Lists.{any-none, all-elim}

@@ -13,9 +13,8 @@ use lib.ListN.{length}
 use Rattle.history.specs.Source.{Source, fromFile, sourceVerdict, sourceWidth, sourceHeight, sourcePixels, sourceRead, sourceArea}
 use Rattle.history.proofs.Images.{file-image}
 use Rattle.image.proofs.Facts.{accepted-file, file-numbers}
-use Rattle.image.specs.File.{pixelsOf, areaRule, imageVerdict, readAs, imageRead, imageArea}
+use Rattle.image.specs.File.{pixelsOf, areaRule, imageVerdict, readAs, imageRead, imageArea, imageOf}
 use Rattle.image.specs.Header.{widthOf, heightOf}
-use Rattle.image.specs.RoundTrip.{imageOf}
 use Rattle.image.specs.Size.{badSize}
 use Rattle.operator.specs.Image.{IsImage}
 use Rattle.seq.proofs.Tab.{length-tab}

@@ -11,7 +11,7 @@ use mathlib.Core.Path.{_≡_, sym, ap, _∙_, subst₂}
 use Prim.Native.Nat.{ℕ}
 use lib.ListN.{length}
 use Rattle.operator.specs.Heijmans.{modified}
-use Rattle.operator.specs.Image.{IsImage, added, removed, exchange, Covered}
+use Rattle.operator.specs.Image.{IsImage, added, removed, exchange, Below}
 use Rattle.operator.specs.Pass.{passes, Stable}
 use Rattle.operator.specs.Rest.{rested}
 use Rattle.operator.proofs.Exchange.{exchange-passes}
@@ -36,7 +36,7 @@ record Shared (e e' : Entry) : Type 0 where
   here : operator (firstOf e) ≡ e .last
   there : operator (firstOf e') ≡ e' .last
   exchanging : (img : List ℕ) → IsImage (e .width) (e .height) img → operator (exchange img) ≡ exchange (operator img)
-  ordering : (a b : List ℕ) → IsImage (e .width) (e .height) a → IsImage (e .width) (e .height) b → Covered a b → Covered (operator a) (operator b)
+  ordering : (a b : List ℕ) → IsImage (e .width) (e .height) a → IsImage (e .width) (e .height) b → Below a b → Below (operator a) (operator b)
 
 -- the last image of a settled entry is stable, so it is the rested one
 rested-last : {s : State} {e : Entry} {n : ℕ} → Held s e n → e .settled ≡ true → rested (e .table) (e .width) (e .height) (firstOf e) ≡ e .last
@@ -70,10 +70,10 @@ module _ {w w' : Course} {e e' : Entry} (two : Twins w w' e e') (r : Held (w .st
       ∙ f .exchanging (firstOf e) (r .begun)
       ∙ ap exchange (f .here ∙ sym (view-held r))
 
-  pub ordered : Covered (firstOf e) (firstOf e') → Covered (viewOf (w .state)) (viewOf (w' .state))
+  pub ordered : Below (firstOf e) (firstOf e') → Below (viewOf (w .state)) (viewOf (w' .state))
   ordered c =
       let f = shared (two .together) in
-      subst₂ Covered (f .here ∙ sym (view-held r)) (f .there ∙ sym (view-held r'))
+      subst₂ Below (f .here ∙ sym (view-held r)) (f .there ∙ sym (view-held r'))
       (f .ordering (firstOf e) (firstOf e') (r .begun) (rw (two .width, two .height) (r' .begun)) c)
 
 -- every pass on a stable image is quiet, so there is no step from it

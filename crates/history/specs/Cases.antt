@@ -9,13 +9,13 @@ use mathlib.Core.Path.{_≡_, refl}
 use Prim.Native.Nat.{ℕ}
 use lib.ListN.{replicate}
 use Rattle.operator.specs.Image.{black}
+use Rattle.operator.specs.Samples.{ring}
 use Rattle.history.specs.Call.{Call, load, pass, run, collect, answerOf, refusalOf}
 use Rattle.history.specs.History.{History, empty, holds}
 use Rattle.history.specs.Lists.{Course, start, step}
 use Rattle.history.specs.Source.{fromFile}
 use Rattle.history.specs.View.{viewOf}
 use Rattle.seq.specs.Lists.{sameList}
-use Rattle.table.specs.declared.Table.{Table}
 use Rattle.verdict.specs.declared.Verdict.{Verdict}
 use Rattle.verdict.specs.declared.Verdict.the-variants.{Accepted, Refused}
 
@@ -43,26 +43,22 @@ abbrev trace : List Call → Course → List ℕ
 trace [] w = []
 trace (c ∷ cs) w = row c w ++ trace cs (step c w)
 
--- the eight neighbours, 2 × 2
-abbrev ring : Table
-ring = record { count = 1; elements = 469440 ∷ replicate 63 0; persistent = 405504 }
-
--- 5 × 5, black only at (2, 2)
-abbrev dot : List ℕ
-dot = 0x50 ∷ 0x34 ∷ 0x0A ∷ 0x35 ∷ 0x20 ∷ 0x35 ∷ 0x0A ∷ 0x00 ∷ 0x00 ∷ 0x20 ∷ 0x00 ∷ 0x00 ∷ []
+-- the file of 5 × 5 pixels, black only at (2, 2)
+abbrev dotFile : List ℕ
+dotFile = 0x50 ∷ 0x34 ∷ 0x0A ∷ 0x35 ∷ 0x20 ∷ 0x35 ∷ 0x0A ∷ 0x00 ∷ 0x00 ∷ 0x20 ∷ 0x00 ∷ 0x00 ∷ []
 
 abbrev calls : List Call
 calls =
     pass
-    ∷ load ring (fromFile dot)
-    ∷ load ring (fromFile dot)
+    ∷ load ring (fromFile dotFile)
+    ∷ load ring (fromFile dotFile)
     ∷ collect (replicate 12 0)
     ∷ pass
     ∷ pass
     ∷ pass
     ∷ collect (replicate 11 0)
     ∷ collect (replicate 12 0)
-    ∷ load ring (fromFile dot)
+    ∷ load ring (fromFile dotFile)
     ∷ run
     ∷ []
 
@@ -81,5 +77,39 @@ expected =
     ++ (0 ∷ 2 ∷ 1 ∷ 0 ∷ 1 ∷ 0 ∷ 2 ∷ [])
 
 pub cases-met : sameList (trace calls (start (replicate 25 7) (replicate 25 7))) expected ≡ true
-unfolding Rattle.history.specs.Call.answerOf Rattle.history.specs.Call.stateOf Rattle.history.specs.Collect.collected Rattle.history.specs.Collect.collectVerdict Rattle.history.specs.Collect.collectWritten Rattle.history.specs.Collect.collectOutput Rattle.history.specs.Collect.collectState Rattle.history.specs.History.entered Rattle.history.specs.History.nextOf Rattle.history.specs.History.joined Rattle.history.specs.History.marked Rattle.history.specs.History.passed Rattle.history.specs.History.ran Rattle.history.specs.History.refusedBy Rattle.history.specs.History.accepted Rattle.history.specs.History.after Rattle.history.specs.Lists.start Rattle.history.specs.Lists.lengthsOf Rattle.history.specs.Lists.tallied Rattle.history.specs.Lists.step Rattle.history.specs.Load.loadVerdict Rattle.history.specs.Load.loadedJob Rattle.history.specs.Load.loadState Rattle.history.specs.Pass.nextImage Rattle.history.specs.Pass.nowAdded Rattle.history.specs.Pass.nowRemoved Rattle.history.specs.Pass.exceeds Rattle.history.specs.Pass.withNext Rattle.history.specs.Pass.changedJob Rattle.history.specs.Pass.stableJob Rattle.history.specs.Pass.changing Rattle.history.specs.Pass.passLoaded Rattle.history.specs.Pass.passReady Rattle.history.specs.Pass.passOf Rattle.history.specs.Run.runFor Rattle.history.specs.Run.runOf Rattle.history.specs.State.emptyJob Rattle.history.specs.State.present Rattle.history.specs.State.image Rattle.history.specs.State.nonzero Rattle.history.specs.State.inconsistent Rattle.history.specs.State.unsound Rattle.history.specs.State.readyVerdict Rattle.history.specs.View.viewOf Rattle.history.specs.View.cover Rattle.history.specs.View.figuresOf Rattle.seq.specs.Bits.bit Rattle.seq.specs.Bits.bitsOf Rattle.seq.specs.Tab.upTo Rattle.verdict.specs.Writer.over Rattle.table.specs.Mask.positions Rattle.table.specs.Mask.validMask Rattle.table.specs.Mask.meets Rattle.table.specs.Mask.sumInside Rattle.table.specs.Mask.sum Rattle.table.specs.Mask.partner Rattle.table.specs.Mask.unpartnered Rattle.table.specs.Mask.persistentFor Rattle.table.specs.Record.masks Rattle.table.specs.Record.persistents Rattle.table.specs.Record.badCount Rattle.table.specs.Record.notRising Rattle.table.specs.Record.badElement Rattle.table.specs.Record.badPlace Rattle.table.specs.Record.badPersistent Rattle.table.specs.Record.disjointFrom Rattle.table.specs.Record.missing Rattle.table.specs.Record.recordVerdict Rattle.image.specs.File.rasterPixel Rattle.image.specs.File.pixelsOf Rattle.image.specs.File.paddingSet Rattle.image.specs.File.fileVerdict Rattle.image.specs.File.imageVerdict Rattle.image.specs.File.imageRead Rattle.image.specs.File.imageArea Rattle.image.specs.File.pixelVerdict Rattle.image.specs.File.rowByte Rattle.image.specs.File.imageBytes Rattle.image.specs.File.writeVerdict Rattle.image.specs.File.imageWritten Rattle.image.specs.File.imageOutput Rattle.image.specs.Header.isDigit Rattle.image.specs.Header.decimalValue Rattle.image.specs.Header.strict Rattle.image.specs.Header.widthPart Rattle.image.specs.Header.heightPart Rattle.image.specs.Header.raster Rattle.image.specs.Header.startsMagic Rattle.image.specs.Header.headerForm Rattle.image.specs.Header.widthOf Rattle.image.specs.Header.heightOf Rattle.image.specs.Header.decimal Rattle.image.specs.Header.header Rattle.image.specs.RoundTrip.imageOf Rattle.image.specs.Size.within Rattle.image.specs.Size.badSize Rattle.image.specs.Size.rowBytes Rattle.operator.specs.Image.black Rattle.operator.specs.Image.added Rattle.operator.specs.Image.removed Rattle.operator.specs.Image.differs Rattle.operator.specs.Image.exchange Rattle.operator.specs.Pass.inside Rattle.operator.specs.Pass.solid Rattle.operator.specs.Pass.opened Rattle.operator.specs.Pass.held Rattle.operator.specs.Pass.passAt Rattle.operator.specs.Pass.pass
+unfolding Rattle.history.specs.Call.answerOf Rattle.history.specs.Call.stateOf Rattle.history.specs.Collect.collected
+    Rattle.history.specs.Collect.collectVerdict Rattle.history.specs.Collect.collectWritten
+    Rattle.history.specs.Collect.collectOutput Rattle.history.specs.Collect.collectState
+    Rattle.history.specs.History.entered Rattle.history.specs.History.nextOf Rattle.history.specs.History.joined
+    Rattle.history.specs.History.marked Rattle.history.specs.History.passed Rattle.history.specs.History.ran
+    Rattle.history.specs.History.refusedBy Rattle.history.specs.History.accepted Rattle.history.specs.History.after
+    Rattle.history.specs.Lists.start Rattle.history.specs.Lists.lengthsOf Rattle.history.specs.Lists.tallied
+    Rattle.history.specs.Lists.step Rattle.history.specs.Load.loadVerdict Rattle.history.specs.Load.loadedJob
+    Rattle.history.specs.Load.loadState Rattle.history.specs.Pass.nextImage Rattle.history.specs.Pass.nowAdded
+    Rattle.history.specs.Pass.nowRemoved Rattle.history.specs.Pass.exceeds Rattle.history.specs.Pass.withNext
+    Rattle.history.specs.Pass.changedJob Rattle.history.specs.Pass.stableJob Rattle.history.specs.Pass.changing
+    Rattle.history.specs.Pass.passLoaded Rattle.history.specs.Pass.passReady Rattle.history.specs.Pass.passOf
+    Rattle.history.specs.Run.runFor Rattle.history.specs.Run.runOf Rattle.history.specs.State.emptyJob
+    Rattle.history.specs.State.present Rattle.history.specs.State.image Rattle.history.specs.State.nonzero
+    Rattle.history.specs.State.inconsistent Rattle.history.specs.State.unsound Rattle.history.specs.State.readyVerdict
+    Rattle.history.specs.View.viewOf Rattle.history.specs.View.cover Rattle.history.specs.View.figuresOf
+    Rattle.seq.specs.Bits.bit Rattle.seq.specs.Bits.bitsOf Rattle.seq.specs.Tab.upTo Rattle.verdict.specs.Writer.over
+    Rattle.table.specs.Mask.positions Rattle.table.specs.Mask.validMask Rattle.table.specs.Mask.meets Rattle.table.specs.Mask.sumInside
+    Rattle.table.specs.Mask.sum Rattle.table.specs.Mask.partner Rattle.table.specs.Mask.unpartnered Rattle.table.specs.Mask.persistentFor
+    Rattle.table.specs.Record.masks Rattle.table.specs.Record.persistents Rattle.table.specs.Record.badCount
+    Rattle.table.specs.Record.notRising Rattle.table.specs.Record.badElement Rattle.table.specs.Record.badPlace
+    Rattle.table.specs.Record.badPersistent Rattle.table.specs.Record.disjointFrom Rattle.table.specs.Record.missing
+    Rattle.table.specs.Record.recordVerdict Rattle.image.specs.File.rasterPixel Rattle.image.specs.File.pixelsOf
+    Rattle.image.specs.File.paddingSet Rattle.image.specs.File.fileVerdict Rattle.image.specs.File.imageVerdict
+    Rattle.image.specs.File.imageRead Rattle.image.specs.File.imageArea Rattle.image.specs.File.pixelVerdict Rattle.image.specs.File.rowByte
+    Rattle.image.specs.File.imageBytes Rattle.image.specs.File.writeVerdict Rattle.image.specs.File.imageWritten
+    Rattle.image.specs.File.imageOutput Rattle.image.specs.Header.isDigit Rattle.image.specs.Header.decimalValue
+    Rattle.image.specs.Header.strict Rattle.image.specs.Header.widthPart Rattle.image.specs.Header.heightPart
+    Rattle.image.specs.Header.raster Rattle.image.specs.Header.startsMagic Rattle.image.specs.Header.headerForm
+    Rattle.image.specs.Header.widthOf Rattle.image.specs.Header.heightOf Rattle.image.specs.Header.decimal Rattle.image.specs.Header.header
+    Rattle.image.specs.File.imageOf Rattle.image.specs.Size.within Rattle.image.specs.Size.badSize Rattle.image.specs.Size.rowBytes
+    Rattle.operator.specs.Image.black Rattle.operator.specs.Image.added Rattle.operator.specs.Image.removed
+    Rattle.operator.specs.Image.differs Rattle.operator.specs.Image.exchange Rattle.operator.specs.Pass.inside
+    Rattle.operator.specs.Pass.solid Rattle.operator.specs.Pass.opened Rattle.operator.specs.Pass.held Rattle.operator.specs.Pass.passAt
+    Rattle.operator.specs.Pass.pass
 cases-met = refl

@@ -1,6 +1,8 @@
 -- Collect (01): 14, 16, 17, 13; then the file in the output and a zero record; the areas stay.
+--     collected s            the file of the present image
 --     collectVerdict n s     on an output of n bytes
 --     collectWritten n s, collectOutput out s, collectState n s     answer, output, record and areas afterwards
+--     collectAs v s          record and areas by the verdict
 -- Assumes nothing.
 use mathlib.Core.List.{List, [], _∷_}
 use Prim.Native.Nat.{ℕ}
@@ -14,7 +16,6 @@ use Rattle.verdict.specs.declared.Written.{Written}
 use Rattle.verdict.specs.Rules.{refuseIf, judge}
 use Rattle.verdict.specs.Writer.{writtenOf, outputOf}
 
--- the file of the present image
 unfoldable pub collected : State → List ℕ
 collected s = imageBytes (s .job .width) (s .job .height) (image s)
 

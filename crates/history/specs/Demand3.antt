@@ -7,6 +7,7 @@
 --     Rests img s         a stable image that was loaded stays
 --     Reloads w e f       so does the last image of an entry, loaded again from its file
 --     played cs a b       what a list of calls leaves
+--     lent a b            the lengths of the areas at its start
 --     Demand3             the claim
 -- Assumes nothing.
 use mathlib.Core.Bool.{true, false}
@@ -16,7 +17,7 @@ use mathlib.Core.Path.{_≡_}
 use Prim.Native.Nat.{ℕ, _+_, _*_, _≤_}
 use lib.ListN.{length, replicate, take}
 use Rattle.operator.specs.Heijmans.{modified}
-use Rattle.operator.specs.Image.{IsImage, black, added, removed, differsAt, exchange, Covered}
+use Rattle.operator.specs.Image.{IsImage, black, added, removed, differsAt, exchange, Below}
 use Rattle.operator.specs.Pass as filter
 use Rattle.history.specs.declared.Passed.the-variants.{Changed, Stable}
 use Rattle.history.specs.Answered.{answeredBy}
@@ -115,7 +116,6 @@ pub record Reloads (w : Course) (e : Entry) (f : List ℕ) : Type 0 where
 abbrev pub played : List Call → List ℕ → List ℕ → Course
 played cs a b = play cs (start a b)
 
--- the areas' lengths at the start
 abbrev pub lent : List ℕ → List ℕ → Lengths
 lent a b = lengthsOf (start a b .state)
 
@@ -126,7 +126,7 @@ pub record Demand3 : Type 0 where
   pub exchanged : (cs cs' : List Call) (a b a' b' : List ℕ) (e e' : Entry) → Twins (played cs a b) (played cs' a' b') e e'
       → firstOf e' ≡ exchange (firstOf e) → viewOf (played cs' a' b' .state) ≡ exchange (viewOf (played cs a b .state))
   pub ordered : (cs cs' : List Call) (a b a' b' : List ℕ) (e e' : Entry) → Twins (played cs a b) (played cs' a' b') e e'
-      → Covered (firstOf e) (firstOf e') → Covered (viewOf (played cs a b .state)) (viewOf (played cs' a' b' .state))
+      → Below (firstOf e) (firstOf e') → Below (viewOf (played cs a b .state)) (viewOf (played cs' a' b' .state))
   -- a stable image that was loaded
   pub rests : (cs : List Call) (a b : List ℕ) (e : Entry) → played cs a b .history ≡ holds e
       → filter.Stable (e .table) (e .width) (e .height) (firstOf e) → Rests (firstOf e) (played cs a b .state)

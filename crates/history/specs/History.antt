@@ -3,8 +3,13 @@
 --     Entry            a table, a row of images and perhaps a mark (settled)
 --     History          empty, or an entry
 --     Lengths          the lengths of the two areas
+--     entered t f      a load enters its table and its image, no mark
+--     nextOf e         the last image through one pass; joined e: it joins the row; marked e: the mark is set
+--     passed e         pass: with the mark, nothing; else a result that differs joins the row, one that does not sets the mark
+--     ran e            run: passes until the mark stands; passedFor n e: at most n
 --     refusedBy c n H      what is refused follows from 01's lists, the history standing for the record, without 14
---     after c n H          the history after a call: a refused one leaves it alone
+--     after c n H          the history after a call: a refused one leaves it alone; afterAs v c H: by the verdict
+--     accepted c H         the history after an accepted call
 -- Assumes nothing.
 use mathlib.Core.Bool.{Bool, true, false, cond, not}
 use mathlib.Core.List.{List, [], _∷_}
@@ -44,7 +49,6 @@ pub record Lengths : Type 0 where
 unfoldable pub entered : Table → Source → Entry
 entered t x = record { table = t; width = sourceWidth x; height = sourceHeight x; last = sourcePixels x; earlier = []; settled = false }
 
--- the last image through one pass
 unfoldable pub nextOf : Entry → List ℕ
 nextOf e = filter.pass (e .table) (e .width) (e .height) (e .last)
 
@@ -63,11 +67,9 @@ unfoldable pub marked : Entry → Entry
 marked e =
     record { table = e .table; width = e .width; height = e .height; last = e .last; earlier = e .earlier; settled = true }
 
--- pass: with the mark, nothing; else a result that differs joins the row, one that does not sets the mark
 unfoldable pub passed : Entry → Entry
 passed e = cond (e .settled) e (cond (differs (e .last) (nextOf e)) (joined e) (marked e))
 
--- run: passes until the mark stands, at most n
 abbrev pub passedFor : ℕ → Entry → Entry
 passedFor zero e = e
 passedFor (suc n) e = passedFor n (passed e)
@@ -90,7 +92,6 @@ refusedBy (collect out) n empty = Refused (refusal 16 0)
 refusedBy (collect out) n (holds e) =
     judge (refuseIf (not (e .settled)) 17 0 ∷ refuseIf (ltb (length out) (length (imageBytes (e .width) (e .height) (e .last)))) 13 0 ∷ [])
 
--- an accepted call
 unfoldable pub accepted : Call → History → History
 accepted (load t x) H = holds (entered t x)
 accepted pass empty = empty

@@ -1,11 +1,14 @@
 -- Lists of calls from an empty job, with the history beside them (01, Lists of calls).
 --     Course            record and areas, the history, and how many passes were accepted since the load, those inside runs counted
 --     start a b         an empty record and two areas of any length and bytes
+--     lengthsOf s       the lengths of the areas
+--     passesOfRun n e   the passes that a run of at most n makes: one answers "at rest", and those before it change the image
+--     tallied c H n     the tally after an accepted call; tallyAs v c H n: after a call with this verdict
 --     step c w          one call
 --     play cs w         the calls of a list, one after the other
 --     uncollected cs w  no collect of the list is accepted
---     firstOf e         the first image of an entry
---     overSteps f e     f from image to next image, summed over the steps of an entry
+--     firstOf e         the first image of an entry; oldest img earlier: the oldest of a row, from the last image back
+--     overSteps f e     f from image to next image, summed over the steps of an entry; sumSteps f img earlier: over those of a row
 -- Assumes nothing.
 use mathlib.Core.Bool.{Bool, true, cond, not, _&&_}
 use mathlib.Core.List.{List, [], _∷_}
@@ -30,12 +33,10 @@ start a b = record { state = record { job = emptyJob; first = a; second = b }; h
 unfoldable pub lengthsOf : State → Lengths
 lengthsOf s = record { first = length (s .first); second = length (s .second) }
 
--- the passes that a run of at most n makes: one answers "at rest", and those before it change the image
 abbrev pub passesOfRun : ℕ → Entry → ℕ
 passesOfRun zero e = 0
 passesOfRun (suc n) e = cond (e .settled) 1 (cond (differs (e .last) (nextOf e)) (suc (passesOfRun n (joined e))) 1)
 
--- the tally after an accepted call
 unfoldable pub tallied : Call → History → ℕ → ℕ
 tallied (load t x) H n = 0
 tallied pass H n = n + 1
@@ -61,12 +62,10 @@ abbrev pub play : List Call → Course → Course
 play [] w = w
 play (c ∷ cs) w = play cs (step c w)
 
--- no collect of the list is accepted
 abbrev pub uncollected : List Call → Course → Bool
 uncollected [] w = true
 uncollected (c ∷ cs) w = not (isCollect c && isAccepted (refusalOf (answerOf c (w .state)))) && uncollected cs (step c w)
 
--- the oldest of a row, from the last image back
 abbrev pub oldest : List ℕ → List (List ℕ) → List ℕ
 oldest img [] = img
 oldest img (before ∷ earlier) = oldest before earlier

@@ -1,8 +1,10 @@
 -- Load (01): 14, 15, table, source, 13; then the image in the first area, stage 1, counts 0.
+--     areasRule x n m      13: both areas are tested
 --     admitRules t s       14, 15, table
 --     loadRules t x s      what a load is refused by, in 01's order
 --     loadVerdict t x s    accepted, or number and place
---     loadState t x s      record and areas afterwards: the second area stays
+--     loadedJob t x        the record afterwards
+--     loadState t x s      record and areas afterwards: the second area stays; loadAs v t x s: by the verdict
 -- Assumes nothing.
 use mathlib.Core.Bool.{not, _||_}
 use mathlib.Core.List.{List, [], _∷_, _++_}

@@ -1,6 +1,13 @@
 -- Pass (01): 14, 16; at stage 1 the new image goes to the other area; 14's pass clause comes last.
 --     Outcome            an answer, and record and areas afterwards
---     passOf s           what a pass does
+--     nextImage s        the image after one pass on the present one
+--     nowAdded s, nowRemoved s      the record's counts with that pass
+--     exceeds s          14's pass clause: passes, or added + removed, would rise above the pixels
+--     withNext j s       the record j, and the new image in the area that does not hold the present one
+--     changedJob s, stableJob s     the record after a pass that changes pixels, and after one that changes none
+--     changing s         a pass at stage 1 that changes pixels; passLoaded s: any pass at stage 1
+--     passReady s        a pass on a sound record that has an image; at rest it does nothing
+--     passOf s           what a pass does; passAs v s: by the verdict of 14 and 16
 -- Assumes nothing.
 use mathlib.Core.Bool.{Bool, cond, _||_}
 use mathlib.Core.List.{List}
@@ -21,7 +28,6 @@ pub record Outcome : Type 0 where
   pub answer : Passed
   pub state : State
 
--- the image after one pass on the present one
 unfoldable pub nextImage : State → List ℕ
 nextImage s = pass (s .job .table) (s .job .width) (s .job .height) (image s)
 
@@ -31,11 +37,9 @@ nowAdded s = s .job .added + added (image s) (nextImage s)
 unfoldable pub nowRemoved : State → ℕ
 nowRemoved s = s .job .removed + removed (image s) (nextImage s)
 
--- 14's pass clause: passes, or added + removed, would rise above the pixels
 unfoldable pub exceeds : State → Bool
 exceeds s = ltb (pixels (s .job)) (s .job .passes + 1) || ltb (pixels (s .job)) (nowAdded s + nowRemoved s)
 
--- the new image in the area that does not hold the present one
 unfoldable pub withNext : Job → State → State
 withNext j s =
     cond (even (s .job .passes))
@@ -66,7 +70,6 @@ stableJob s =
       table = s .job .table;
     }
 
--- a pass at stage 1 that changes pixels
 unfoldable pub changing : State → Outcome
 changing s =
     cond (exceeds s)

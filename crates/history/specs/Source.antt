@@ -8,9 +8,8 @@
 use mathlib.Core.List.{List}
 use Prim.Native.Nat.{ℕ}
 use Rattle.image.specs.declared.ImageRead.{ImageRead}
-use Rattle.image.specs.File.{fileVerdict, imageRead, imageArea}
+use Rattle.image.specs.File.{fileVerdict, imageRead, imageArea, imageOf}
 use Rattle.image.specs.Header.{widthOf, heightOf}
-use Rattle.image.specs.RoundTrip.{imageOf}
 use Rattle.verdict.specs.declared.Verdict.{Verdict}
 
 pub data Source : Type 0 where

@@ -1,12 +1,17 @@
 -- A job: the record and the two work areas (01, The job), and when it is unsound (14).
 --     State             record and areas
 --     emptyJob          every field zero
---     fieldsOf j        the fields beside the stage, the table's elements too
 --     pixels j          width × height
+--     even n            2 divides n
 --     present s         the area that holds the image: the first when passes is even, else the second
 --     image s           the present image
+--     short j area      an area is shorter than the image
+--     fieldsOf j        the fields beside the stage, the table's elements too
+--     nonzero j         one of them is not zero: what 14 asks at stage 0
+--     inconsistent s    what 14 asks at stage 1 and 2
 --     unsound s         01's 14, without its pass clause
 --     soundRule s, loadedRule s      14, and 16 at stage 0
+--     readyVerdict s    14, 16: what pass, run, view and figures begin with
 -- Assumes nothing.
 use mathlib.Core.Bool.{Bool, cond, not, _||_}
 use mathlib.Core.List.{List, [], _∷_}
@@ -40,7 +45,6 @@ present s = cond (even (s .job .passes)) (s .first) (s .second)
 unfoldable pub image : State → List ℕ
 image s = take (pixels (s .job)) (present s)
 
--- an area is shorter than the image
 abbrev pub short : Job → List ℕ → Bool
 short j area = ltb (length area) (pixels j)
 
@@ -48,11 +52,9 @@ abbrev pub fieldsOf : Job → List ℕ
 fieldsOf j =
     j .width ∷ j .height ∷ j .passes ∷ j .added ∷ j .removed ∷ j .table .count ∷ j .table .persistent ∷ j .table .elements
 
--- stage 0 with a nonzero field
 unfoldable pub nonzero : Job → Bool
 nonzero j = not (all (eqb 0) (fieldsOf j))
 
--- what 14 asks at stage 1 and 2
 unfoldable pub inconsistent : State → Bool
 inconsistent s =
     badSize (s .job .width) (s .job .height)
@@ -70,6 +72,5 @@ soundRule s = refuseIf (unsound s) 14 0
 abbrev pub loadedRule : State → Verdict
 loadedRule s = refuseIf (eqb (s .job .stage) 0) 16 0
 
--- 14, 16: what pass, run, view and figures begin with
 unfoldable pub readyVerdict : State → Verdict
 readyVerdict s = judge (soundRule s ∷ loadedRule s ∷ [])

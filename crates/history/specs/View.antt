@@ -1,6 +1,8 @@
 -- View and figures (01): 14, 16; nothing is altered.
 --     viewOf s       the present image, or an empty part; `readyVerdict s` is the call of its own for number and place
---     figuresOf s    balance = added − removed, signed; cover in thousandths, cut down
+--     cover n m      n of m in thousandths, cut down
+--     figuresOf s    balance = added − removed, signed; cover of the black pixels
+--     viewAs v s, figuresAs v s     these by the verdict of 14 and 16
 -- Assumes nothing.
 use mathlib.Core.List.{List, []}
 use Prim.Native.Nat.{ℕ, _*_, _/_}

@@ -13,8 +13,8 @@ use lib.ListN.{length, take, drop, length-drop}
 use lib.Seq.{take-all, drop-drop}
 use Rattle.image.specs.declared.header.Header.the-variants as header
 use Rattle.image.specs.declared.number.Number.the-variants as number
+use Rattle.image.specs.Code.Layout.{numberIf, numberAt, rasterStart, headerOf}
 use Rattle.image.specs.Header.{digits, decimalValue, strict, after, widthPart, heightPart, raster, startsMagic, headerForm, widthOf, heightOf, space, lineFeed}
-use Rattle.image.specs.Layout.{numberIf, numberAt, rasterStart, headerOf}
 
 -- what a number at a position says of the bytes there
 record Told (bytes : List ℕ) (at stop value next : ℕ) : Type 0 where

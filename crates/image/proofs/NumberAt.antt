@@ -14,8 +14,8 @@ use lib.Dec.{leb}
 use lib.ListN.{length, getD, take, drop, List·getD-eq-default}
 use lib.Seq.{getD-drop}
 use Rattle.image.specs.declared.number.Number.the-variants.{Value, Malformed}
+use Rattle.image.specs.Code.Layout.{numberAt}
 use Rattle.image.specs.Header.{digits, decimalValue, strict}
-use Rattle.image.specs.Layout.{numberAt}
 use Rattle.seq.proofs.Lists.{and-left, and-right}
 
 pub byte-within : (f : List ℕ) (i : ℕ) → 0 < getD f i 0 → i < length f

@@ -18,8 +18,8 @@ use lib.Dec.{ltb, lit<}
 use lib.ListN.{getD, set}
 use lib.Pow.{pow-mono}
 use lib.Seq.{sets}
+use Rattle.image.specs.Code.Rows.{Binary, pixelIn, packedRow}
 use Rattle.image.specs.File.{packed}
-use Rattle.image.specs.Rows.{Binary, pixelIn, packedRow}
 use Rattle.image.specs.Size.{rowBytes}
 use Rattle.image.proofs.RowBytes.{row-bytes-fit}
 use Rattle.seq.proofs.HighFirst.{bitsValue, bits-lt}

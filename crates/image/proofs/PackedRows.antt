@@ -8,8 +8,8 @@ use Prim.Native.Nat.{ℕ, _+_, _*_, _≤_, _<_}
 use native.Mathlib.Nat.{zero-mul, mul-comm, le-antisymm}
 use native.Mathlib.Omega.{arith}
 use lib.Seq.{sets}
+use Rattle.image.specs.Code.Rows.{packedRow}
 use Rattle.image.specs.File.{rowByte}
-use Rattle.image.specs.Rows.{packedRow}
 use Rattle.image.specs.Size.{rowBytes}
 use Rattle.seq.proofs.Grid.{grid, row-below, stored-row}
 use Rattle.seq.proofs.Stores.{Stored, stored-none, stored-all}

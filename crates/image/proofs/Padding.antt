@@ -16,8 +16,8 @@ use borrow.Author.Tests.{eq-eqb, ne-eqb}
 use lib.Bits.{bitAnd, and-mask}
 use lib.ListN.{length, getD}
 use lib.Pow.{shl-exact}
+use Rattle.image.specs.Code.Rows.{Sides}
 use Rattle.image.specs.File.{paddingSet}
-use Rattle.image.specs.Rows.{Sides}
 use Rattle.image.specs.Size.{rowBytes}
 use Rattle.image.proofs.RowBytes.{row-bytes-fit}
 use Rattle.seq.proofs.Grid.{cell-below}

@@ -9,8 +9,8 @@ use Prim.Native.Nat.{ℕ, _*_, _/_, _≤_, _<_}
 use borrow.Author.Tests.{not-false, eqb-true, eq-eqb, ne-eqb, ltb-false, le-ltb}
 use lib.Dec.{eqb}
 use lib.ListN.{length, getD}
+use Rattle.image.specs.Code.Rows.{tooLarge}
 use Rattle.image.specs.File.{pixelVerdict}
-use Rattle.image.specs.Rows.{tooLarge}
 use Rattle.image.specs.Size.{badSize}
 use Rattle.seq.proofs.Tab.{first-none, first-nothing}
 use Rattle.seq.specs.Tab.{first}

@@ -13,8 +13,8 @@ use native.Mathlib.Omega.{arith}
 use borrow.Author.Tests.{lt-ltb, le-ltb, ltb-true, ltb-false, eq-eqb, eqb-true, not-false}
 use lib.Dec.{ltb}
 use lib.ListN.{length, getD}
+use Rattle.image.specs.Code.Rows.{Binary, rasterOf}
 use Rattle.image.specs.File.{rasterPixel, pixelsOf, paddingSet, inRow, packed, rowByte}
-use Rattle.image.specs.Rows.{Binary, rasterOf}
 use Rattle.image.specs.Size.{rowBytes}
 use Rattle.image.proofs.Packed.{packed-bits, packed-ext, pixel-small}
 use Rattle.image.proofs.RowBytes.{row-bytes-fit}

@@ -10,10 +10,10 @@ use borrow.Author.Tests.{lt-ltb, le-ltb}
 use lib.ListN.{length, take, drop}
 use Rattle.image.specs.declared.ImageRead.the-variants as read
 use Rattle.image.specs.declared.layout.Layout.the-variants as layout
+use Rattle.image.specs.Code.Layout.{rasterStart, layoutIf, layoutOf}
+use Rattle.image.specs.Code.Rows.{Sides}
 use Rattle.image.specs.File.{pixelsOf, fileVerdict, imageVerdict, imageRead, imageArea}
 use Rattle.image.specs.Header.{widthOf, heightOf}
-use Rattle.image.specs.Layout.{rasterStart, layoutIf, layoutOf}
-use Rattle.image.specs.Rows.{Sides}
 use Rattle.image.specs.Size.{rowBytes}
 use Rattle.image.proofs.Facts.{file-good}
 use Rattle.image.proofs.HeaderOf.{raster-part}

@@ -9,11 +9,11 @@ use lib.Dec.{leb, ltb}
 use lib.ListN.{getD}
 use lib.Pow.{areBytes}
 use lib.Seq.{getD-drop}
-use Rattle.image.specs.File.{paddingSet, imageBytes, rowByte}
+use Rattle.image.specs.Code.Layout.{rasterStart}
+use Rattle.image.specs.Code.Rows.{Sides, rasterOf}
+use Rattle.image.specs.File.{paddingSet, imageBytes, rowByte, imageOf}
 use Rattle.image.specs.Header.{raster, widthOf, heightOf, header}
-use Rattle.image.specs.Layout.{rasterStart}
-use Rattle.image.specs.Rows.{Sides, rasterOf}
-use Rattle.image.specs.RoundTrip.{imageOf, ReadBack, ImageRoundTrip}
+use Rattle.image.specs.RoundTrip.{ReadBack, ImageRoundTrip}
 use Rattle.image.specs.Size.{rowBytes}
 use Rattle.image.proofs.Facts.{FileGood, file-good, good-file, AcceptedFile, accepted-file}
 use Rattle.image.proofs.HeaderBack.{HeaderRead, header-back, header-kept}

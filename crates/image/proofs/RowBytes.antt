@@ -10,7 +10,7 @@ use native.Mathlib.Nat.{mul-le-mul}
 use native.Mathlib.Omega.{arith}
 use borrow.Author.Tests.{leb-true, not-false}
 use lib.Dec.{leb}
-use Rattle.image.specs.Rows.{Sides}
+use Rattle.image.specs.Code.Rows.{Sides}
 use Rattle.image.specs.Size.{maxSide, within, badSize, rowBytes}
 use Rattle.seq.proofs.Lists.{and-left, and-right}
 

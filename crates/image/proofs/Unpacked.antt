@@ -12,8 +12,8 @@ use native.Mathlib.Nat.{zero-mul, mul-comm, le-trans, le-antisymm}
 use native.Mathlib.Omega.{arith}
 use lib.ListN.{length, getD}
 use lib.Seq.{sets}
+use Rattle.image.specs.Code.Rows.{bytePixel, rowPixel}
 use Rattle.image.specs.File.{rasterPixel, pixelsOf}
-use Rattle.image.specs.Rows.{bytePixel, rowPixel}
 use Rattle.image.specs.Size.{rowBytes}
 use Rattle.image.proofs.RowBytes.{row-bytes-fit}
 use Rattle.seq.proofs.Grid.{grid, row-below, fill-row}

@@ -11,7 +11,7 @@ use mathlib.Core.Path.{_≡_, sym, ap, _∙_}
 use Prim.Native.Nat.{ℕ, _+_, _*_, _/_, _≤_, _<_}
 use native.Mathlib.Omega.{arith}
 use borrow.Author.Count.{below-none, below-more}
-use Rattle.image.specs.Rows.{tooLarge}
+use Rattle.image.specs.Code.Rows.{tooLarge}
 use Rattle.seq.proofs.Grid.{row-below, rowPasses, first-rows}
 use Rattle.seq.proofs.Tab.{first-at, first-none}
 use Rattle.seq.specs.Lists.{isSome}

@@ -13,9 +13,9 @@ use borrow.Author.Tests.{lt-ltb, le-ltb, ltb-true, ltb-false}
 use lib.Dec.{ltb}
 use lib.ListN.{length, getD, length-append, List·getD-eq-default}
 use lib.Seq.{sets}
+use Rattle.image.specs.Code.Rows.{Binary, rasterOf}
 use Rattle.image.specs.File.{pixelVerdict, rowByte, imageBytes, writeVerdict, imageWritten, imageOutput}
 use Rattle.image.specs.Header.{header}
-use Rattle.image.specs.Rows.{Binary, rasterOf}
 use Rattle.image.specs.Size.{rowBytes}
 use Rattle.image.proofs.PixelsOf.{PixelsGood}
 use Rattle.seq.proofs.Grid.{grid}

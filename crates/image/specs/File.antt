@@ -1,9 +1,15 @@
 -- Image files (01: the reader 9 to 12 in order, then 13; the writer 10, 11, 12, then 13).
+--     rasterPixel w r row col    the pixel at a row and a column of the raster r: the leftmost is the highest bit
 --     pixelsOf w h r        the pixels of the raster r, in row order
+--     imageOf f             the pixels of an accepted file
 --     paddingSet w r row    an unused bit of a row's last byte is 1
 --     fileRules f, fileVerdict f             the rules of a file in their order; accepted, or number and place
+--     areaRule w h n        13: an area of n bytes is too short for the image
 --     imageVerdict f n, imageRead f n, imageArea f area    the reader on an area of n bytes: its answer, and the area afterwards
+--     readAs v w h          the reader's answer by its verdict
 --     pixelRules w h px, pixelVerdict w h px     the rules on pixel bytes: 10, 11, 12; their verdict
+--     inRow w px row col    the pixel at a row and a column, 0 past the row's end
+--     packed v              eight values as the bits of a byte, the first the highest
 --     rowByte w px row j    byte j of a row of the file
 --     imageBytes w h px     the file of an image
 --     writeVerdict w h px n, imageWritten w h px n, imageOutput w h px out     the writer on n bytes of output
@@ -24,12 +30,14 @@ use Rattle.verdict.specs.declared.Written.{Written}
 use Rattle.verdict.specs.Rules.{refuseIf, refuseAt, orElse, judge}
 use Rattle.verdict.specs.Writer.{writtenOf, outputOf}
 
--- the pixel at a row and a column of a raster: the leftmost is the highest bit
 unfoldable pub rasterPixel : ℕ → List ℕ → ℕ → ℕ → ℕ
 rasterPixel w r row col = getD r (row * rowBytes w + col / 8) 0 / 2 ^ (7 - col % 8) % 2
 
 unfoldable pub pixelsOf : ℕ → ℕ → List ℕ → List ℕ
 pixelsOf w h r = tab (λ i. rasterPixel w r (i / w) (i % w)) (w * h)
+
+unfoldable pub imageOf : List ℕ → List ℕ
+imageOf f = pixelsOf (widthOf f) (heightOf f) (raster f)
 
 unfoldable pub paddingSet : ℕ → List ℕ → ℕ → Bool
 paddingSet w r row = not (eqb (getD r (row * rowBytes w + (rowBytes w - 1)) 0 % 2 ^ (8 * rowBytes w - w)) 0)
@@ -45,7 +53,6 @@ fileRules f =
 unfoldable pub fileVerdict : List ℕ → Verdict
 fileVerdict f = judge (fileRules f)
 
--- an area of n bytes is too short for the image
 abbrev pub areaRule : ℕ → ℕ → ℕ → Verdict
 areaRule w h n = refuseIf (ltb n (w * h)) 13 0
 
@@ -72,11 +79,9 @@ pixelRules w h px =
 unfoldable pub pixelVerdict : ℕ → ℕ → List ℕ → Verdict
 pixelVerdict w h px = judge (pixelRules w h px)
 
--- the pixel at a row and a column, 0 past the row's end
 abbrev pub inRow : ℕ → List ℕ → ℕ → ℕ → ℕ
 inRow w px row col = cond (ltb col w) (getD px (row * w + col) 0) 0
 
--- eight values as the bits of a byte, the first the highest
 abbrev pub packed : (ℕ → ℕ) → ℕ
 packed v = 128 * v 0 + (64 * v 1 + (32 * v 2 + (16 * v 3 + (8 * v 4 + (4 * v 5 + (2 * v 6 + v 7))))))
 

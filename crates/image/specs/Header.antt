@@ -1,9 +1,15 @@
 -- The header of an image file: `P4`, line feed, width, one space, height, line feed (01, The sheet).
+--     magic, space, lineFeed, digit0     `P4` and line feed; the bytes of a space, a line feed and the digit 0
+--     isDigit b           a byte is a decimal digit
 --     digits bytes        how many decimal digits the bytes start with
---     decimalValue ds     the number that digits make
+--     decimalValue ds     the number that digits make; decimalFrom n ds: after digits that make n
 --     strict bytes        the bytes start with one to three digits, and with 0 only where it is the one digit
 --     widthPart f, heightPart f, raster f    what follows `P4` and line feed; the width and one byte; the height and one byte
+--     startsMagic f       the file starts with `P4` and line feed
+--     after bytes         the byte that ends a number
 --     headerForm f        the file has the strict form
+--     widthOf f, heightOf f    its width and height
+--     digitAt u n         the digit of n at the place of the unit u
 --     decimal n           the digits of n, for n below 1000
 --     header w h          the header of a width and a height
 -- Assumes nothing.
@@ -13,7 +19,6 @@ use Prim.Native.Nat.{ℕ, suc, _+_, _-_, _*_, _/_, _%_}
 use lib.Dec.{leb, ltb, eqb}
 use lib.ListN.{getD, take, drop}
 
--- `P4` and line feed, a space, a line feed, and the digit 0
 abbrev pub magic : List ℕ
 magic = 0x50 ∷ 0x34 ∷ 0x0A ∷ []
 
@@ -33,7 +38,6 @@ abbrev pub digits : List ℕ → ℕ
 digits [] = 0
 digits (b ∷ bs) = cond (isDigit b) (suc (digits bs)) 0
 
--- the value so far, and the digits still to come
 abbrev pub decimalFrom : ℕ → List ℕ → ℕ
 decimalFrom n [] = n
 decimalFrom n (d ∷ ds) = decimalFrom (10 * n + (d - digit0)) ds
@@ -56,7 +60,6 @@ raster f = drop (digits (heightPart f) + 1) (heightPart f)
 unfoldable pub startsMagic : List ℕ → Bool
 startsMagic f = eqb (getD f 0 0) 0x50 && (eqb (getD f 1 0) 0x34 && eqb (getD f 2 0) 0x0A)
 
--- the byte that ends a number
 abbrev pub after : List ℕ → ℕ
 after bytes = getD bytes (digits bytes) 0
 
@@ -72,7 +75,6 @@ widthOf f = decimalValue (take (digits (widthPart f)) (widthPart f))
 unfoldable pub heightOf : List ℕ → ℕ
 heightOf f = decimalValue (take (digits (heightPart f)) (heightPart f))
 
--- the digit of n at the place of the unit u
 abbrev pub digitAt : ℕ → ℕ → ℕ
 digitAt u n = digit0 + n / u % 10
 

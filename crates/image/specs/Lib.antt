@@ -3,6 +3,5 @@ pub mod Header
 pub mod File
 pub mod RoundTrip
 pub mod Cases
-pub mod Layout
-pub mod Rows
 pub mod Answers
+pub mod Code

@@ -1,19 +1,16 @@
 -- Images there and back (01, demand 2: files round-trip to the byte).
---     imageOf f    the pixels of an accepted file
+--     ReadBack w h px     what reading the file of an image gives
+--     ImageRoundTrip      an image written and read, a file read and written
 -- Assumes nothing.
 use mathlib.Core.Bool.{true}
 use mathlib.Core.List.{List}
 use mathlib.Core.Path.{_≡_}
 use Prim.Native.Nat.{ℕ}
 use lib.Pow.{areBytes}
-use Rattle.image.specs.File.{pixelsOf, fileVerdict, pixelVerdict, imageBytes}
-use Rattle.image.specs.Header.{raster, widthOf, heightOf}
+use Rattle.image.specs.File.{imageOf, fileVerdict, pixelVerdict, imageBytes}
+use Rattle.image.specs.Header.{widthOf, heightOf}
 use Rattle.verdict.specs.declared.Verdict.the-variants.{Accepted}
 
-unfoldable pub imageOf : List ℕ → List ℕ
-imageOf f = pixelsOf (widthOf f) (heightOf f) (raster f)
-
--- what reading the file of an image gives
 pub record ReadBack (w h : ℕ) (px : List ℕ) : Type 0 where
   pub accepted : fileVerdict (imageBytes w h px) ≡ Accepted
   pub width : widthOf (imageBytes w h px) ≡ w

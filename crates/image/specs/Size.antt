@@ -1,5 +1,6 @@
 -- Sizes of images (01, The sheet). A pixel is 0 or 1, one byte in memory, in row order.
 --     maxSide             the largest width and height of an image
+--     within limit n      n is from 1 to the limit
 --     badSize w h         rule 10
 --     rowBytes w          the bytes of a row of w pixels in a file
 -- Assumes nothing.
@@ -10,7 +11,6 @@ use lib.Dec.{leb}
 abbrev pub maxSide : ℕ
 maxSide = 256
 
--- a number from 1 to the limit
 unfoldable pub within : ℕ → ℕ → Bool
 within limit n = leb 1 n && leb n limit
 

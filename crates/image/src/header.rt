@@ -5,8 +5,8 @@ ghost use mathlib.Core.Path.{_≡_};
 ghost use Prim.Native.Nat.{_≤_};
 ghost use lib.ListN.{length};
 ghost use lib.Seq.{sets};
+ghost use Rattle.image.specs.Code.Layout.{headerOf};
 ghost use Rattle.image.specs.Header.{startsMagic, header};
-ghost use Rattle.image.specs.Layout.{headerOf};
 
 const LETTER: u8 = b'P';
 

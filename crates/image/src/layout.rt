@@ -6,7 +6,7 @@ use crate::size;
 use verdict::Refusal;
 use verdict::Verdict;
 ghost use mathlib.Core.Path.{_≡_};
-ghost use Rattle.image.specs.Layout.{layoutOf};
+ghost use Rattle.image.specs.Code.Layout.{layoutOf};
 ghost use Rattle.verdict.specs.Rules.{refusal};
 
 // The image's size and where its raster starts, or the refusal.

@@ -3,8 +3,8 @@ ghost use mathlib.Core.Path.{_≡_};
 ghost use Prim.Native.Nat.{_+_, _-_, _%_, _≤_, _<_};
 ghost use lib.ListN.{length, getD, take, drop};
 ghost use lib.Seq.{sets};
+ghost use Rattle.image.specs.Code.Layout.{numberAt};
 ghost use Rattle.image.specs.Header.{isDigit, digits, decimalValue, strict, digit0, decimal};
-ghost use Rattle.image.specs.Layout.{numberAt};
 
 const DIGIT_0: u8 = b'0';
 

@@ -5,8 +5,8 @@ ghost use mathlib.Core.Path.{_≡_};
 ghost use Prim.Native.Nat.{_+_, _*_, _≤_};
 ghost use lib.ListN.{length};
 ghost use lib.Seq.{sets};
+ghost use Rattle.image.specs.Code.Rows.{Sides, Binary, pixelIn, packedRow, rasterOf};
 ghost use Rattle.image.specs.File.{packed};
-ghost use Rattle.image.specs.Rows.{Sides, Binary, pixelIn, packedRow, rasterOf};
 ghost use Rattle.image.specs.Size.{rowBytes};
 ghost use Rattle.seq.specs.Tab.{tab};
 

@@ -4,7 +4,7 @@ use verdict::Verdict;
 ghost use mathlib.Core.Path.{_≡_};
 ghost use Prim.Native.Nat.{_+_, _*_, _/_, _≤_};
 ghost use lib.ListN.{length};
-ghost use Rattle.image.specs.Rows.{Sides, tooLarge};
+ghost use Rattle.image.specs.Code.Rows.{Sides, tooLarge};
 ghost use Rattle.seq.specs.Lists.{isSome};
 ghost use Rattle.seq.specs.Tab.{first};
 ghost use Rattle.verdict.specs.Rules.{refuseAt};

@@ -18,7 +18,7 @@ use Rattle.history.specs.Sound.{Ready}
 use Rattle.history.specs.State.{State, pixels, image}
 use Rattle.history.proofs.Areas.{take-over}
 use Rattle.history.proofs.Ready.{ready-next, ready-writable}
-use Rattle.job.specs.Ready.{Computed}
+use Rattle.job.specs.Code.Ready.{Computed}
 use Rattle.verdict.specs.declared.Refusal.{Refusal}
 use Rattle.verdict.specs.declared.Verdict.the-variants as verdict
 use Rattle.verdict.specs.Writer.{over}

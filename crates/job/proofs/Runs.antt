@@ -19,7 +19,7 @@ use Rattle.history.proofs.Passed.{enum}
 use Rattle.job.specs.declared.Stepped.{Stepped}
 use Rattle.job.specs.Core.{at}
 use Rattle.history.specs.Sound.{Ready}
-use Rattle.job.specs.Ready.{Made}
+use Rattle.job.specs.Code.Ready.{Made}
 use Rattle.history.proofs.Passes.{pass-stable, pass-loaded, Changes, changed}
 use Rattle.history.proofs.Ready.{ready-accepted}
 use Rattle.history.proofs.Runs.{run-ends, run-goes}

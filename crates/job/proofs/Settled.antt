@@ -22,7 +22,7 @@ use Rattle.history.specs.Pass.{nextImage, nowAdded, nowRemoved, exceeds, withNe
 use Rattle.history.specs.State.{State, pixels, even, image}
 use Rattle.image.specs.Size.{badSize, within, maxSide}
 use Rattle.history.specs.Sound.{Ready}
-use Rattle.job.specs.Ready.{Computed, Made}
+use Rattle.job.specs.Code.Ready.{Computed, Made}
 use Rattle.job.proofs.Changes.{quiet, changed}
 use Rattle.history.proofs.Ready.{ready-image, ready-next}
 use Rattle.seq.specs.Tab.{upTo}

@@ -75,7 +75,7 @@ pub fn load(job: &mut Job, table: Table, file: &[u8], first: &mut [u8], second: 
 fn admit<'a>(job: Job, table: Table, first: &'a [u8], second: &'a [u8]) -> Verdict
     ensures { λ r. ⌜ r ≡ judge (admitRules table (at job (now (first .entry)) (now (second .entry)))) ⌝ }
 {
-    if sound::unsound(job, first, second) {
+    if sound::is_unsound(job, first, second) {
         return verdict::refused(verdict::UNSOUND, 0);
     }
     if job.stage != sound::EMPTY {

@@ -26,7 +26,7 @@ pub(crate) const ELEMENTS: usize = 64;
 pub(crate) fn ready<'a>(job: Job, first: &'a [u8], second: &'a [u8]) -> Verdict
     ensures { λ r. ⌜ r ≡ readyVerdict (at job (now (first .entry)) (now (second .entry))) ⌝ }
 {
-    if unsound(job, first, second) {
+    if is_unsound(job, first, second) {
         return verdict::refused(verdict::UNSOUND, 0);
     }
     if job.stage == EMPTY {
@@ -43,7 +43,7 @@ pub(crate) fn refusal(number: u32) -> Refusal
 }
 
 // 14, without its pass clause.
-pub(crate) fn unsound<'a>(job: Job, first: &'a [u8], second: &'a [u8]) -> bool
+pub(crate) fn is_unsound<'a>(job: Job, first: &'a [u8], second: &'a [u8]) -> bool
     ensures { λ r. ⌜ r ≡ Rattle.history.specs.State.unsound (at job (now (first .entry)) (now (second .entry))) ⌝ }
 {
     let stage = job.stage;
@@ -51,13 +51,13 @@ pub(crate) fn unsound<'a>(job: Job, first: &'a [u8], second: &'a [u8]) -> bool
         return true;
     }
     if stage == EMPTY {
-        return nonzero(job);
+        return is_nonzero(job);
     }
-    inconsistent(job, first, second)
+    is_inconsistent(job, first, second)
 }
 
 // What 14 asks at stage 1 and 2.
-fn inconsistent<'a>(job: Job, first: &'a [u8], second: &'a [u8]) -> bool
+fn is_inconsistent<'a>(job: Job, first: &'a [u8], second: &'a [u8]) -> bool
     ensures { λ r. ⌜ r ≡ Rattle.history.specs.State.inconsistent (at job (now (first .entry)) (now (second .entry))) ⌝ }
 {
     if image::size::is_bad(job.width, job.height) {
@@ -74,17 +74,17 @@ fn inconsistent<'a>(job: Job, first: &'a [u8], second: &'a [u8]) -> bool
     if second.len() < pixels {
         return true;
     }
-    if above_one(area::image(job, first, second)) {
+    if any_above_one(area::image(job, first, second)) {
         return true;
     }
     if pixels < job.passes {
         return true;
     }
-    sum_above(pixels, job.added, job.removed)
+    is_sum_above(pixels, job.added, job.removed)
 }
 
 // Stage 0 with a nonzero field. The join of the numbers is 0 exactly when each of them is.
-fn nonzero(job: Job) -> bool
+fn is_nonzero(job: Job) -> bool
     ensures { λ r. ⌜ r ≡ Rattle.history.specs.State.nonzero job ⌝ }
 {
     let table = job.table;
@@ -113,7 +113,7 @@ fn any_nonzero(elements: [u32; ELEMENTS]) -> bool
 }
 
 // A byte is above 1. Without a way out of the loop, so that many bytes are joined at once.
-fn above_one(bytes: &[u8]) -> bool
+fn any_above_one(bytes: &[u8]) -> bool
     ensures { λ r. ⌜ r ≡ any (ltb 1) (now (bytes .entry)) ⌝ }
 {
     let mut seen: u8 = 0;
@@ -126,7 +126,7 @@ fn above_one(bytes: &[u8]) -> bool
 }
 
 // added + removed is above the limit, without a sum that could wrap.
-pub(crate) fn sum_above(limit: usize, added: usize, removed: usize) -> bool
+pub(crate) fn is_sum_above(limit: usize, added: usize, removed: usize) -> bool
     ensures { λ r. ⌜ r ≡ ltb limit (added + removed) ⌝ }
 {
     if limit < added {

@@ -13,7 +13,7 @@ ghost use Rattle.history.specs.Pass.{passLoaded};
 ghost use Rattle.history.specs.Run.{runOf};
 ghost use Rattle.job.specs.Core.{at};
 ghost use Rattle.history.specs.Sound.{Ready};
-ghost use Rattle.job.specs.Ready.{Computed, Made};
+ghost use Rattle.job.specs.Code.Ready.{Computed, Made};
 
 const MAX_PIXELS: usize = sound::MAX_SIDE * sound::MAX_SIDE;
 
@@ -121,5 +121,5 @@ fn exceeds(pixels: usize, passes: usize, added: usize, removed: usize) -> bool
     if pixels <= passes {
         return true;
     }
-    sound::sum_above(pixels, added, removed)
+    sound::is_sum_above(pixels, added, removed)
 }

@@ -1,5 +1,6 @@
 -- Colours exchanged come out exchanged (000: the operator is self-dual).
 --     complement X    black and white exchanged
+--     Exchange 𝓢      after any number of passes
 -- Assumes nothing.
 use mathlib.Core.Bool.{not}
 use mathlib.Core.Path.{_≡_}

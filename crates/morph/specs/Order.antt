@@ -1,5 +1,6 @@
 -- Order is kept (000: the operator is increasing).
 --     Below X Y    whatever is black in X is black in Y
+--     Order 𝓢      after any number of passes too
 -- Assumes nothing.
 use mathlib.Core.Bool.{true}
 use mathlib.Core.Path.{_≡_}

@@ -1,4 +1,5 @@
 -- A site changes in at most one pass.
+--     SingleChange 𝓢    two passes that change a site are the same pass
 -- Assumes nothing.
 use mathlib.Core.Bool.{true}
 use mathlib.Core.Path.{_≡_}

@@ -1,6 +1,6 @@
 -- Order is kept.
 --     one-mono, mono-one                            order of pixels
---     covered-all, covered-below, below-covered     order of lists and of what they show
+--     below-all, below-shown, shown-below           order of lists and of what they show
 --     order-passes                                  the theorem
 -- Assumes nothing.
 use mathlib.Core.Bool.{Bool, true, false}
@@ -12,10 +12,10 @@ use native.Mathlib.Omega.{arith}
 use lib.Dec.{ltb}
 use lib.ListN.{length, getD, List·getD-eq-default}
 use borrow.Author.Tests.{ltb-true, ltb-false}
-use Rattle.operator.specs.Image.{IsImage, Covered}
+use Rattle.operator.specs.Image.{IsImage, Below}
 use Rattle.operator.specs.Order.{Order}
 use Rattle.morph.specs.System.{Image}
-use Rattle.morph.specs.Order.{Below}
+use Rattle.morph.specs.Order as sets
 use Rattle.morph.proofs.Order as sites
 use Rattle.seq.specs.Lists.{one}
 use Rattle.seq.proofs.Lists.{either}
@@ -33,22 +33,22 @@ mono-one true y f = omega (arith, ap one (f refl))
 mono-one false y f = omega arith
 
 -- past the end of a list there is no black pixel
-covered-all : (a b : List ℕ) → Covered a b → (i : ℕ) → getD a i 0 ≤ getD b i 0
-covered-all a b cov i = ⊎-elim (λ e. cov i (ltb-true i (length a) e)) (λ e. past (ltb-false i (length a) e)) (either (ltb i (length a)))
+below-all : (a b : List ℕ) → Below a b → (i : ℕ) → getD a i 0 ≤ getD b i 0
+below-all a b below i = ⊎-elim (λ e. below i (ltb-true i (length a) e)) (λ e. past (ltb-false i (length a) e)) (either (ltb i (length a)))
   where
     past : length a ≤ i → getD a i 0 ≤ getD b i 0
     past l = rw (List·getD-eq-default a 0 {n = i} l) zero-le
 
-covered-below : {w h : ℕ} {a b : List ℕ} → IsImage w h a → IsImage w h b → Covered a b → Below (blackOf a) (blackOf b)
-covered-below {a = a} {b = b} m n cov i =
-    one-mono (blackOf a i) (blackOf b i) (rw (binary-value m i, binary-value n i) at (covered-all a b cov i))
+below-shown : {w h : ℕ} {a b : List ℕ} → IsImage w h a → IsImage w h b → Below a b → sets.Below (blackOf a) (blackOf b)
+below-shown {a = a} {b = b} m n below i =
+    one-mono (blackOf a i) (blackOf b i) (rw (binary-value m i, binary-value n i) at (below-all a b below i))
 
-below-covered : {w h : ℕ} {a b : List ℕ} {X Y : Image ℕ} → Shows w h a X → Shows w h b Y → Below X Y → Covered a b
-below-covered {X = X} {Y = Y} s t f i l =
+shown-below : {w h : ℕ} {a b : List ℕ} {X Y : Image ℕ} → Shows w h a X → Shows w h b Y → sets.Below X Y → Below a b
+shown-below {X = X} {Y = Y} s t f i l =
     let k = rw (s .pixels) at l in
     rw (s .value i k, t .value i k) (mono-one (X i) (Y i) (f i))
 
 pub order-passes : Order
-order-passes t w h a b ok m n cov k =
-    below-covered (passes-shows t (image-shows m) k) (passes-shows t (image-shows n) k)
-    (sites.order (lawful t w h ok) (blackOf a) (blackOf b) (covered-below m n cov) k)
+order-passes t w h a b ok m n below k =
+    shown-below (passes-shows t (image-shows m) k) (passes-shows t (image-shows n) k)
+    (sites.order (lawful t w h ok) (blackOf a) (blackOf b) (below-shown m n below) k)

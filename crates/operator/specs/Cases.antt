@@ -2,27 +2,19 @@
 --     cases-met     one theorem, computed: images after a pass, and a pixel that no translate opens
 -- Assumes nothing.
 use mathlib.Core.Bool.{Bool, true, not}
-use mathlib.Core.List.{List, [], _∷_, _++_}
+use mathlib.Core.List.{List, [], _∷_}
 use mathlib.Core.Path.{_≡_, refl}
-use Prim.Native.Nat.{ℕ, _+_, _-_, _/_, _%_}
+use Prim.Native.Nat.{ℕ}
 use lib.ListN.{replicate}
 use Rattle.operator.specs.Heijmans.{psiAt, psi, alpha, beta, modified}
 use Rattle.operator.specs.Image.{exchange}
 use Rattle.operator.specs.Pass.{inside, solid, opened, held, passAt, pass}
+use Rattle.operator.specs.Samples.{ring, cross, dot, chessboard}
 use Rattle.seq.specs.Bits.{bit, bitsOf}
 use Rattle.seq.specs.Lists.{all, sameList}
-use Rattle.seq.specs.Tab.{tab, upTo}
-use Rattle.table.specs.declared.Table.{Table}
+use Rattle.seq.specs.Tab.{upTo}
 use Rattle.table.specs.Mask.{positions}
 use Rattle.table.specs.Record.{masks, persistents}
-
--- the eight neighbours, 2 × 2
-abbrev ring : Table
-ring = record { count = 1; elements = 469440 ∷ replicate 63 0; persistent = 405504 }
-
--- n pixels, black only at pixel i
-abbrev dot : ℕ → ℕ → List ℕ
-dot n i = replicate i 0 ++ 1 ∷ replicate (n - i - 1) 0
 
 -- the pass on a 5 × 5 image with one black pixel leaves it, clears it
 abbrev stays : ℕ → Bool
@@ -30,13 +22,6 @@ stays i = sameList (pass ring 5 5 (dot 25 i)) (dot 25 i)
 
 abbrev goes : ℕ → Bool
 goes i = sameList (pass ring 5 5 (dot 25 i)) (replicate 25 0)
-
--- the four neighbours, two side by side
-abbrev cross : Table
-cross = record { count = 1; elements = 141440 ∷ replicate 63 0; persistent = 12288 }
-
-abbrev chessboard : List ℕ
-chessboard = tab (λ i. (i / 6 + i % 6) % 2) 36
 
 -- a dot at a corner stands for its own neighbours outside, and stays; one inside goes. In a 4 × 4 image with the dot at (1, 1), no
 -- translate that is wholly inside opens (0, 0). Nothing opens a pixel of a chessboard, so it stays, by the report's formula too

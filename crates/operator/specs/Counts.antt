@@ -1,8 +1,8 @@
 -- Counting a pass's changes (01, demand 3).
---     total f n       f 0 + .. + f (n − 1)
---     stepAdded, stepRemoved     what pass i, from 0, adds and removes
---     Counts          a pass gives an image; black after is black before plus added less removed; all changes together are at most
---                     the pixels; at most as many passes change a pixel as there are pixels
+--     stepAdded t w h img i, stepRemoved t w h img i     what pass i, from 0, adds and removes
+--     Counts t w h img     a pass gives an image; black after is black before plus added less removed; all changes together are at most
+--                          the pixels; at most as many passes change a pixel as there are pixels
+--     AllCounts            for every accepted table and image
 -- Assumes nothing.
 use mathlib.Core.List.{List}
 use mathlib.Core.Path.{_≡_}

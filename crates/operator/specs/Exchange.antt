@@ -1,4 +1,5 @@
 -- Colours exchanged come out exchanged, after any number of passes (01, demand 3).
+--     Exchange    for every accepted table and image
 -- Assumes nothing.
 use mathlib.Core.List.{List}
 use mathlib.Core.Path.{_≡_}

@@ -1,8 +1,11 @@
 -- One pass as the report writes it (000, Proposition 6.7): π = (id ∧ ψβ) ∨ ψα, over the same elements and the same edge rule.
---     psi t w h img       ψ = (id ∧ ⋀ δ_Ǎ) ∨ ⋁ ε_A (000, 5.9): black and every element hits black, or some element is all black
---     alpha t w h img     α, the opening: the black pixels that lie in a translate that is wholly inside and black
---     beta t w h img      β, the negative of α
---     modified t w h img  π
+--     blackAt w h img r c n   the pixel that stands for position n at (r, c) is black
+--     psiAt t w h img r c     ψ = (id ∧ ⋀ δ_Ǎ) ∨ ⋁ ε_A (000, 5.9): black and every element hits black, or some element is all black
+--     psi t w h img           the image after ψ
+--     alpha t w h img         α, the opening: the black pixels that lie in a translate that is wholly inside and black
+--     beta t w h img          β, the negative of α
+--     modified t w h img      π
+--     Heijmans t w h img      a pass is π, the plain rule is ψ; AllHeijmans: for every accepted table and image
 -- Assumes nothing.
 use mathlib.Core.Bool.{Bool, _&&_, _||_}
 use mathlib.Core.List.{List}
@@ -21,7 +24,6 @@ use Rattle.table.specs.Mask.{positions}
 use Rattle.table.specs.Record.{masks, recordVerdict}
 use Rattle.verdict.specs.declared.Verdict.the-variants.{Accepted}
 
--- the pixel that stands for position n at (r, c) is black
 abbrev pub blackAt : ℕ → ℕ → List ℕ → ℕ → ℕ → ℕ → Bool
 blackAt w h img r c n = eqb (pixel w img (siteRow h r n) (siteCol w c n)) 1
 

@@ -3,9 +3,9 @@
 --     IsImage w h img    an image of w × h pixels of value 0 or 1
 --     black img          how many pixels are 1
 --     added a b          how many pixels go from 0 in a to 1 in b; removed a b: from 1 to 0
---     differs a b        some pixel is not the same
+--     differs a b        some pixel is not the same; differsAt a b i: pixel i is not
 --     exchange img       the colours exchanged
---     Covered a b        what is black in a is black in b
+--     Below a b          what is black in a is black in b
 -- Assumes nothing.
 use mathlib.Core.Bool.{Bool, true, not, _&&_}
 use mathlib.Core.List.{List, map}
@@ -34,7 +34,6 @@ added a b = count (λ i. eqb (getD a i 0) 0 && eqb (getD b i 0) 1) (upTo (length
 unfoldable pub removed : List ℕ → List ℕ → ℕ
 removed a b = count (λ i. eqb (getD a i 0) 1 && eqb (getD b i 0) 0) (upTo (length a))
 
--- pixel i is not the same
 abbrev pub differsAt : List ℕ → List ℕ → ℕ → Bool
 differsAt a b i = not (eqb (getD a i 0) (getD b i 0))
 
@@ -44,5 +43,5 @@ differs a b = any (differsAt a b) (upTo (length a))
 unfoldable pub exchange : List ℕ → List ℕ
 exchange img = map (λ v. 1 - v) img
 
-abbrev pub Covered : List ℕ → List ℕ → Type 0
-Covered a b = (i : ℕ) → i < length a → getD a i 0 ≤ getD b i 0
+abbrev pub Below : List ℕ → List ℕ → Type 0
+Below a b = (i : ℕ) → i < length a → getD a i 0 ≤ getD b i 0

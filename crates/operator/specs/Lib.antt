@@ -9,4 +9,5 @@ pub mod Exchange
 pub mod Order
 pub mod Rest
 pub mod Heijmans
+pub mod Samples
 pub mod Cases

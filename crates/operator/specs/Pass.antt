@@ -1,8 +1,10 @@
 -- One pass (01), for a table t and an image of w × h pixels.
+--     placed i b b'             along one side of the image: where a translate that puts b at i puts b'; fits size i b b': within the side
 --     inside w h r c b b'       the translate that puts position b at (r, c) puts b' inside the image
 --     solid w h img v r c K b   that translate of K lies wholly inside, and all its pixels have value v
 --     opened t w h img v r c    (r, c) lies in a solid translate of a persistent element (01: covered for v)
 --     held t w h img v r c      some element has all its offsets at (r, c) opened for v
+--     passAt t w h img r c      the pixel after one pass: it changes exactly when, of value v, it is held for 1 − v
 --     pass t w h img            the image after one pass; passes t w h n img: after n
 --     Stable t w h img          one pass leaves it as it is (01: at rest)
 -- Assumes nothing.
@@ -19,7 +21,6 @@ use Rattle.table.specs.declared.Table.{Table}
 use Rattle.table.specs.Mask.{across, down, positions}
 use Rattle.table.specs.Record.{masks, persistents}
 
--- where a translate that puts the coordinate b at i puts b', along one side of the image
 abbrev pub placed : ℕ → ℕ → ℕ → ℕ
 placed i b b' = i + b' - b
 
@@ -39,7 +40,6 @@ opened t w h img v r c = any (λ K. any (solid w h img v r c K) (positions K)) (
 unfoldable pub held : Table → ℕ → ℕ → List ℕ → ℕ → ℕ → ℕ → Bool
 held t w h img v r c = any (λ e. all (λ n. opened t w h img v (siteRow h r n) (siteCol w c n)) (positions e)) (masks t)
 
--- a pixel of value v changes exactly when it is held for 1 − v
 unfoldable pub passAt : Table → ℕ → ℕ → List ℕ → ℕ → ℕ → ℕ
 passAt t w h img r c = cond (held t w h img (1 - pixel w img r c) r c) (1 - pixel w img r c) (pixel w img r c)
 

@@ -1,5 +1,6 @@
 -- The plain rule ψ (01): a pixel changes exactly when some element has all its offsets of the other value.
---     plain t w h img    the image after it
+--     opposed t w h img v r c    some element has the value v at all its offsets at (r, c)
+--     plainAt t w h img r c      the pixel after it; plain t w h img: the image
 -- Assumes nothing.
 use mathlib.Core.Bool.{Bool, cond}
 use mathlib.Core.List.{List}

@@ -1,9 +1,12 @@
 -- The preview (01, One pass): the 3 × 3 median.
---     square            the nine positions of the 3 × 3 square around the centre
+--     square            the nine positions of the 3 × 3 square around the centre; neighbours: without it
+--     fromBits bs       values as the bits of a number, the first the lowest
 --     pattern win       the nine pixels of a window as a number below 512
 --     fiveOrMore p      1 exactly when five or more of the nine bits are 1
 --     preview w h img   the image of answers
+--     chosen s ns       the mask of the positions ns that the bits of s choose
 --     medianElements    the 56 five-point subsets of the eight neighbours
+--     medianTable       a table with those elements
 --     Preview           it is the plain rule of those elements
 -- Assumes nothing.
 use mathlib.Core.List.{List, [], _∷_, _++_, map}
@@ -22,7 +25,6 @@ use Rattle.table.specs.declared.Table.{Table}
 abbrev pub square : List ℕ
 square = 6 ∷ 7 ∷ 8 ∷ 11 ∷ 12 ∷ 13 ∷ 16 ∷ 17 ∷ 18 ∷ []
 
--- values as the bits of a number, the first the lowest
 abbrev pub fromBits : List ℕ → ℕ
 fromBits [] = 0
 fromBits (b ∷ bs) = b + 2 * fromBits bs
@@ -39,7 +41,6 @@ preview w h img = tab (λ i. fiveOrMore (pattern (window w h img (i / w) (i % w)
 abbrev pub neighbours : List ℕ
 neighbours = 6 ∷ 7 ∷ 8 ∷ 11 ∷ 13 ∷ 16 ∷ 17 ∷ 18 ∷ []
 
--- the mask of the neighbours that the bits of s choose
 unfoldable pub chosen : ℕ → List ℕ → ℕ
 chosen s [] = 0
 chosen s (n ∷ ns) = s % 2 * 2 ^ n + chosen (s / 2) ns
@@ -47,7 +48,6 @@ chosen s (n ∷ ns) = s % 2 * 2 ^ n + chosen (s / 2) ns
 unfoldable pub medianElements : List ℕ
 medianElements = map (λ s. chosen s neighbours) (keep (λ s. eqb (count (bit s) (upTo 8)) 5) (upTo 256))
 
--- a table with those elements
 unfoldable pub medianTable : Table
 medianTable = record { count = 56; elements = medianElements ++ replicate 8 0; persistent = 13597056 }
 

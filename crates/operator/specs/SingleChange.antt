@@ -1,4 +1,5 @@
 -- A pixel changes in at most one pass (01, demand 3).
+--     SingleChange    two passes that change a pixel are the same pass
 -- Assumes nothing.
 use mathlib.Core.Bool.{true}
 use mathlib.Core.List.{List}

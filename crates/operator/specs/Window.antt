@@ -10,6 +10,7 @@
 --     clamp size i         the place i − 2, cut to 0 .. size − 1
 --     siteRow h r n, siteCol w c n    the pixel that stands for position n at (r, c)
 --     window w h img r c   the window as five rows of five values
+--     windowAt win n       the value of position n in a window
 -- Assumes nothing.
 use mathlib.Core.List.{List, []}
 use Prim.Native.Nat.{ℕ, _+_, _-_, min}
@@ -30,6 +31,5 @@ siteCol w c n = clamp w (c + across n)
 unfoldable pub window : ℕ → ℕ → List ℕ → ℕ → ℕ → List (List ℕ)
 window w h img r c = tab (λ y. tab (λ x. pixel w img (clamp h (r + y)) (clamp w (c + x))) 5) 5
 
--- the value of position n in a window
 abbrev pub windowAt : List (List ℕ) → ℕ → ℕ
 windowAt win n = getD (getD win (down n) []) (across n) 0

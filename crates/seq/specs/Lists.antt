@@ -2,6 +2,7 @@
 --     any p l     some element of l passes p
 --     all p l     every element of l passes p
 --     keep p l    the elements of l that pass p, in their order
+--     one b       1 for true, 0 for false
 --     count p l   how many elements of l pass p
 --     join ls     the lists of ls, one after the other
 --     same a b    the two truth values are equal
@@ -26,7 +27,6 @@ abbrev pub keep {ℓ} : {A : Type ℓ} → (A → Bool) → List A → List A
 keep p [] = []
 keep p (a ∷ l) = cond (p a) (a ∷ keep p l) (keep p l)
 
--- 1 for true, 0 for false
 abbrev pub one : Bool → ℕ
 one true = 1
 one false = 0

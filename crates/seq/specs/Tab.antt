@@ -1,7 +1,7 @@
 -- Lists and searches over the numbers below a bound.
 --     tab f n     f 0, f 1, .., f (n − 1)
 --     upTo n      0, 1, .., n − 1
---     first p n   the lowest k below n that passes p
+--     first p n   the lowest k below n that passes p; firstOr b o: 0 where b holds, else one more than what o found
 --     Filled f d l n   l has the elements of tab f n at its front and is the list d behind them: where a loop
 --                      that fills d from the front stands after n turns
 -- Assumes nothing.
@@ -19,7 +19,6 @@ tab f (suc n) = f zero ∷ tab (λ k. f (suc k)) n
 unfoldable pub upTo : ℕ → List ℕ
 upTo n = tab (λ k. k) n
 
--- the value, or the search one further on
 abbrev pub firstOr : Bool → Option ℕ → Option ℕ
 firstOr true o = some 0
 firstOr false o = Option·map suc o

@@ -16,8 +16,8 @@ use lib.ListN.{length, getD, take, drop, drop-of-length-le}
 use lib.Seq.{drop-drop}
 use Rattle.table.specs.declared.number.NumberRead.{NumberRead}
 use Rattle.table.specs.declared.number.NumberRead.the-variants as read
+use Rattle.table.specs.Code.Cursor.{numberOf, numberAt}
 use Rattle.table.specs.Number.{more, size, groups, value, ends, tooLong, notFewest, numberRules}
-use Rattle.table.specs.Cursor.{numberOf, numberAt}
 use Rattle.verdict.specs.declared.Verdict.{Verdict}
 use Rattle.verdict.specs.declared.Verdict.the-variants.{Accepted, Refused}
 use Rattle.verdict.specs.Rules.{refusal, refuseIf, orElse, judge}

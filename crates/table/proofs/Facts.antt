@@ -18,9 +18,9 @@ use Rattle.seq.proofs.Members.{not-some, any-false, take-place}
 use Rattle.seq.proofs.Tab.{first-nothing}
 use Rattle.seq.proofs.Tests.{between, lt-or-le, or-none-left, or-none-right}
 use Rattle.table.specs.declared.Table.{Table}
+use Rattle.table.specs.Code.Search.{badNumber, badAfter, lowestBad}
 use Rattle.table.specs.Mask.{centre, positions, validMask, meets, sumInside, sum, persistentFor}
 use Rattle.table.specs.Record.{maxElements, element, masks, persistents, badElement, badPlace, disjointFrom, missing, meetRule, persistRule, recordVerdict}
-use Rattle.table.specs.Search.{badNumber, badAfter, lowestBad}
 use Rattle.table.proofs.Masks.{valid-position, meets-shared, persistent-partner}
 use Rattle.table.proofs.Places.{bad-next, bad-within, bad-past, good-valid}
 use Rattle.table.proofs.Verdicts.{count-le, Sound, record-sound}

@@ -16,12 +16,12 @@ use Rattle.seq.specs.Tab.{tab}
 use Rattle.seq.proofs.Joins.{map-append, join-append, take-tab}
 use Rattle.seq.proofs.Lists.{and-right}
 use Rattle.seq.proofs.Tab.{tab-suc, tab-ext}
+use Rattle.table.specs.Code.Reading.{behindRules}
+use Rattle.table.specs.Code.Search.{badNumber}
 use Rattle.table.specs.File.{rest, number, tableOf, bytesLeft, elementRules, elementsRules, fileVerdict, tableBytes}
 use Rattle.table.specs.Mask.{validMask}
 use Rattle.table.specs.Number.{size, numberRules, numberBytes}
-use Rattle.table.specs.Reading.{behindRules}
 use Rattle.table.specs.Record.{maxElements, masks, badCount, badPersistent, countRule, elementRule, persistentRule, meetRule, persistRule}
-use Rattle.table.specs.Search.{badNumber}
 use Rattle.table.proofs.Front.{front-bytes, rules-front}
 use Rattle.table.proofs.Files.{file-verdict, last-rules}
 use Rattle.table.proofs.Judging.{four-accepted, judge-each}

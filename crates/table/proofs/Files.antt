@@ -16,13 +16,13 @@ use lib.Dec.{eqb}
 use lib.ListN.{length, drop, length-drop}
 use Rattle.table.specs.declared.Table.{Table}
 use Rattle.table.specs.declared.number.NumberRead.the-variants as read
-use Rattle.table.specs.Cursor.{numberAt}
+use Rattle.table.specs.Code.Cursor.{numberAt}
+use Rattle.table.specs.Code.Reading.{behindRules, CountRead, LastRead}
+use Rattle.table.specs.Code.Search.{badNumber}
 use Rattle.table.specs.File.{rest, number, tableOf, bytesLeft, elementsRules, persistentRules, lastRules, fileVerdict, readAs, readTable}
 use Rattle.table.specs.Mask.{validMask}
 use Rattle.table.specs.Number.{size, value, numberRules}
-use Rattle.table.specs.Reading.{behindRules, CountRead, LastRead}
 use Rattle.table.specs.Record.{badCount, badPersistent, countRule, persistentRule, meetRule, persistRule}
-use Rattle.table.specs.Search.{badNumber}
 use Rattle.table.proofs.Cursor.{rules-refused, rules-read}
 use Rattle.verdict.specs.declared.Refusal.{Refusal}
 use Rattle.verdict.specs.declared.Verdict.{Verdict}

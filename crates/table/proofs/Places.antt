@@ -19,9 +19,9 @@ use Rattle.seq.proofs.Tests.{or-none-left}
 use Rattle.table.specs.declared.Table.{Table}
 use Rattle.table.specs.declared.mask.Search.{Search}
 use Rattle.table.specs.declared.mask.Search.the-variants.{Found, Nothing}
+use Rattle.table.specs.Code.Search.{found, badAfter, lowestBad}
 use Rattle.table.specs.Mask.{centre, validMask, unpartnered, persistentFor}
 use Rattle.table.specs.Record.{maxElements, element, persistents, notRising, badElement, badPlace, missing}
-use Rattle.table.specs.Search.{found, badAfter, lowestBad}
 use Rattle.table.proofs.Positions.{mask-least, mask-lt}
 
 -- the first element has none before it, and a valid mask is above 0

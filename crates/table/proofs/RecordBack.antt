@@ -17,11 +17,11 @@ use Rattle.seq.specs.Tab.{upTo}
 use Rattle.seq.proofs.Tab.{tab-of, first-nothing}
 use Rattle.seq.proofs.Tests.{lt-or-le}
 use Rattle.table.specs.declared.Table.{Table}
+use Rattle.table.specs.Code.Reading.{behindRules}
+use Rattle.table.specs.Code.Search.{badNumber, lowestBad}
 use Rattle.table.specs.File.{rest, number, tableOf, bytesLeft, elementRules, fileVerdict, tableBytes}
 use Rattle.table.specs.Number.{size, value, numberRules, numberBytes}
-use Rattle.table.specs.Reading.{behindRules}
 use Rattle.table.specs.Record.{maxElements, element, masks, badCount, badElement, badPlace, badPersistent, countRule, elementRule, persistentRule, meetRule, persistRule}
-use Rattle.table.specs.Search.{badNumber, lowestBad}
 use Rattle.table.proofs.Front.{Front, bytes-front, front-reads}
 use Rattle.table.proofs.Files.{file-verdict, last-rules, table-eq}
 use Rattle.table.proofs.Judging.{below, judge-more}

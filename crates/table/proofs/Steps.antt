@@ -18,12 +18,12 @@ use Rattle.seq.specs.Tab.{upTo, Filled}
 use Rattle.seq.proofs.Joins.{fill-rest}
 use Rattle.seq.proofs.Tab.{fill-none, fill-more}
 use Rattle.table.specs.declared.number.NumberRead.the-variants as read
-use Rattle.table.specs.Cursor.{numberAt}
+use Rattle.table.specs.Code.Cursor.{numberAt}
+use Rattle.table.specs.Code.Reading.{ElementsRead}
+use Rattle.table.specs.Code.Search.{badAfter}
 use Rattle.table.specs.File.{rest, number, tableOf, elementRules}
 use Rattle.table.specs.Number.{size, value, numberRules}
-use Rattle.table.specs.Reading.{ElementsRead}
 use Rattle.table.specs.Record.{maxElements}
-use Rattle.table.specs.Search.{badAfter}
 use Rattle.table.proofs.Cursor.{rules-refused, rules-read}
 use Rattle.table.proofs.Judging.{below, judge-more, judge-at}
 use Rattle.table.proofs.Tables.{before, element-judged}

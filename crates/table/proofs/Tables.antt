@@ -17,10 +17,10 @@ use lib.Dec.{ltb}
 use Rattle.seq.proofs.Lists.{join-intro, map-intro}
 use Rattle.seq.proofs.Tab.{getD-tab, upTo-intro, first-none}
 use Rattle.seq.proofs.Tests.{lt-or-le}
+use Rattle.table.specs.Code.Search.{badAfter, lowestBad}
 use Rattle.table.specs.File.{rest, number, tableOf, elementRules, elementsRules}
 use Rattle.table.specs.Number.{numberRules}
 use Rattle.table.specs.Record.{maxElements, element, badElement, badPlace, elementRule}
-use Rattle.table.specs.Search.{badAfter, lowestBad}
 use Rattle.table.proofs.Places.{bad-first, bad-next, bad-within, bad-past}
 use Rattle.verdict.specs.declared.Verdict.{Verdict}
 use Rattle.verdict.specs.declared.Verdict.the-variants.{Accepted}

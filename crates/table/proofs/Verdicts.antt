@@ -18,9 +18,9 @@ use Rattle.seq.proofs.Tests.{between}
 use Rattle.table.specs.declared.Table.{Table}
 use Rattle.table.specs.declared.mask.Search.{Search}
 use Rattle.table.specs.declared.mask.Search.the-variants.{Found, Nothing}
+use Rattle.table.specs.Code.Search.{found, badNumber, lowestBad}
 use Rattle.table.specs.Mask.{validMask}
 use Rattle.table.specs.Record.{maxElements, badCount, badPlace, badPersistent, disjointFrom, missing, countRule, placesRule, persistentRule, meetRule, persistRule, recordVerdict}
-use Rattle.table.specs.Search.{found, badNumber, lowestBad}
 use Rattle.table.proofs.Judging.{four-accepted}
 use Rattle.verdict.specs.declared.Verdict.the-variants.{Accepted, Refused}
 use Rattle.verdict.specs.Numbers.{OneOf, accepts}

@@ -2,12 +2,12 @@
 --     rest f i          the bytes of f from its number i on
 --     number f i        number i: 0 the count, then the elements, then the persistent element
 --     tableOf f         the record that the file's numbers make
---     bytesLeft f       bytes stand behind the persistent element
---     countRules f, elementRules f k, elementsRules f, persistentRules f     1, 2 and the range rule: the count, element k, all elements, the persistent element
---     lastRules f       8, 5, 7
+--     bytesLeft f       rule 8
+--     countRules f, elementsRules f, persistentRules f, lastRules f    the rules on the count, the elements, the persistent element; 8, 5, 7
+--     elementRules f k  the rules on element k
 --     fileRules f       all of them, in their order
 --     fileVerdict f     accepted, or number and place
---     readTable f       the reader's answer: a zero record where it is refused
+--     readTable f       the reader's answer: a zero record where it is refused; readAs v t: by its verdict
 --     tableBytes t      the file of a record
 --     tableVerdict t n, writtenTable t n, tableOutput t out    the writer on n bytes of output
 -- Assumes nothing.
@@ -43,7 +43,6 @@ tableOf f =
       persistent = number f (number f 0 + 1);
     }
 
--- rule 8
 unfoldable pub bytesLeft : List ℕ → Bool
 bytesLeft f = not (eqb (length (rest f (number f 0 + 2))) 0)
 
@@ -72,7 +71,6 @@ fileRules f = countRules f ++ elementsRules f ++ persistentRules f ++ lastRules 
 unfoldable pub fileVerdict : List ℕ → Verdict
 fileVerdict f = judge (fileRules f)
 
--- the record read, or the zero record
 abbrev pub readAs : Verdict → Table → TableRead
 readAs Accepted t = record { verdict = Accepted; table = t }
 readAs (Refused r) t = record { verdict = Refused r; table = zeroTable }

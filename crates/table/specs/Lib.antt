@@ -4,6 +4,4 @@ pub mod Number
 pub mod File
 pub mod RoundTrip
 pub mod Cases
-pub mod Cursor
-pub mod Reading
-pub mod Search
+pub mod Code

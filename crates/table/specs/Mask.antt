@@ -1,11 +1,14 @@
 -- Masks of the 25 positions of a 5 × 5 window (01, The table).
 --     across n, down n    dx + 2 and dy + 2 of position n
+--     centre              the position of the offset (0, 0)
+--     largestMask         all 25 positions
 --     positions m         the positions of the mask m, rising
 --     validMask m         1 to 33,554,431
 --     meets e f           the masks share a position
+--     sumInside b a       the offset sum b + a lies in the window; sum b a: its position
 --     partner K e b       some offset a of e has b + a in K
 --     unpartnered K e     the lowest position of K that has no partner in e
---     persistent K e      K is persistent for the element e (000, Proposition 6.8)
+--     persistentFor K e   K is persistent for the element e (000, Proposition 6.8)
 -- Assumes nothing.
 use mathlib.Core.Bool.{Bool, not, _&&_}
 use mathlib.Core.List.{List}
@@ -22,7 +25,6 @@ across n = n % 5
 abbrev pub down : ℕ → ℕ
 down n = n / 5
 
--- the offset (0, 0)
 abbrev pub centre : ℕ
 centre = 12
 
@@ -38,11 +40,9 @@ validMask m = leb 1 m && leb m largestMask
 unfoldable pub meets : ℕ → ℕ → Bool
 meets e f = any (bit f) (positions e)
 
--- the offset sum b + a lies in the window
 unfoldable pub sumInside : ℕ → ℕ → Bool
 sumInside b a = (leb 2 (across b + across a) && leb (across b + across a) 6) && (leb 2 (down b + down a) && leb (down b + down a) 6)
 
--- its position number
 unfoldable pub sum : ℕ → ℕ → ℕ
 sum b a = 5 * (down b + down a - 2) + (across b + across a - 2)
 

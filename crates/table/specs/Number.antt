@@ -1,8 +1,14 @@
 -- Numbers in groups of seven bits, lowest first (01, The table).
---     more bytes          how many of the first four bytes, from the first on, have bit 7 set
+--     run bytes           how many bytes, from the first on, have bit 7 set
+--     more bytes          the same of the first four bytes
 --     size bytes          the bytes that the number takes
+--     groups bytes        what the bytes make as groups
 --     value bytes         the number
+--     ends bytes          rule 1: the bytes end within or before the number
+--     tooLong bytes       rule 2: the fourth group has bit 7 set; notFewest bytes: the last of several groups is 0
 --     numberRules p bytes the rules 1 and 2 on the number that the bytes start with, at place p
+--     groupCount n        how many groups the number needs
+--     group n j           group j of n, with bit 7 where more follow
 --     numberBytes n       the number in the fewest groups
 -- Assumes nothing.
 use mathlib.Core.Bool.{Bool, cond, _&&_}
@@ -15,7 +21,6 @@ use Rattle.seq.specs.Tab.{tab}
 use Rattle.verdict.specs.declared.Verdict.{Verdict}
 use Rattle.verdict.specs.Rules.{refuseIf}
 
--- how long the run of bytes with bit 7 set is that the list starts with
 abbrev pub run : List ℕ → ℕ
 run [] = 0
 run (b ∷ bs) = cond (leb 128 b) (suc (run bs)) 0
@@ -26,7 +31,6 @@ more bytes = run (take 4 bytes)
 unfoldable pub size : List ℕ → ℕ
 size bytes = more bytes + 1
 
--- the groups' value
 abbrev pub groups : List ℕ → ℕ
 groups [] = 0
 groups (b ∷ bs) = b % 128 + 128 * groups bs
@@ -34,15 +38,12 @@ groups (b ∷ bs) = b % 128 + 128 * groups bs
 unfoldable pub value : List ℕ → ℕ
 value bytes = groups (take (size bytes) bytes)
 
--- the bytes end within or before the number
 unfoldable pub ends : List ℕ → Bool
 ends bytes = ltb (more bytes) 4 && leb (length bytes) (more bytes)
 
--- the fourth group has bit 7 set
 unfoldable pub tooLong : List ℕ → Bool
 tooLong bytes = leb 4 (more bytes)
 
--- the last of several groups is 0
 unfoldable pub notFewest : List ℕ → Bool
 notFewest bytes = leb 1 (more bytes) && eqb (getD bytes (more bytes) 0) 0
 
@@ -53,11 +54,9 @@ numberRules place bytes =
     ∷ refuseIf (notFewest bytes) 2 place
     ∷ []
 
--- how many groups the number needs
 unfoldable pub groupCount : ℕ → ℕ
 groupCount n = 1 + (one (leb (2 ^ 7) n) + (one (leb (2 ^ 14) n) + one (leb (2 ^ 21) n)))
 
--- group j of n, with bit 7 where more follow
 unfoldable pub group : ℕ → ℕ → ℕ
 group n j = n / 128 ^ j % 128 + 128 * one (ltb (j + 1) (groupCount n))
 

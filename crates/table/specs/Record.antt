@@ -1,12 +1,19 @@
 -- The verdict on a table record (01: 3, 4, 6, 5, 7).
---     element t k       element place k, from 0
---     masks t           the elements
---     persistents t     the persistent elements (01: the keeper)
---     disjointFrom t k  the lowest earlier element that shares no position with element k
---     missing t k       some persistent element is not persistent for element k
---     countRule t, placesRule t, elementRule t k, persistentRule t, meetRule t, persistRule t     3; 4, and at one element; 6; 5; 7
---     recordRules t     the rules, in their order
---     recordVerdict t   accepted, or number and place
+--     maxElements         the most elements of a table
+--     element t k         element place k, from 0
+--     masks t             the elements
+--     persistents t       the persistent elements (01: the keeper)
+--     zeroTable           every field zero
+--     badCount t          rule 3
+--     notRising t k       element k is not above the one before
+--     badElement t k      rule 4 at an element place below the count; badPlace t k: at any place of a record
+--     badPersistent t     rule 6
+--     disjointFrom t k    rule 5: the lowest earlier element that shares no position with element k
+--     missing t k         rule 7: some persistent element is not persistent for element k
+--     countRule t, persistentRule t, meetRule t, persistRule t     3, 6, 5, 7 with their places
+--     placesRule t        4 on a record; elementRule t k: on one element of a file
+--     recordRules t       the rules, in their order
+--     recordVerdict t     accepted, or number and place
 -- Assumes nothing.
 use mathlib.Core.Bool.{Bool, not, cond, _&&_, _||_}
 use mathlib.Core.List.{List, [], _∷_}
@@ -37,31 +44,24 @@ persistents t = t .persistent ∷ []
 abbrev pub zeroTable : Table
 zeroTable = record { count = 0; elements = replicate maxElements 0; persistent = 0 }
 
--- rule 3
 unfoldable pub badCount : Table → Bool
 badCount t = not (leb 1 (t .count) && leb (t .count) maxElements)
 
--- not above the one before
 unfoldable pub notRising : Table → ℕ → Bool
 notRising t k = leb 1 k && leb (element t k) (element t (k - 1))
 
--- rule 4 at an element place below the count
 unfoldable pub badElement : Table → ℕ → Bool
 badElement t k = not (validMask (element t k)) || (bit (element t k) centre || notRising t k)
 
--- rule 4 at any place of a record
 unfoldable pub badPlace : Table → ℕ → Bool
 badPlace t k = cond (ltb k (t .count)) (badElement t k) (not (eqb (element t k) 0))
 
--- rule 6
 unfoldable pub badPersistent : Table → Bool
 badPersistent t = not (validMask (t .persistent))
 
--- rule 5
 unfoldable pub disjointFrom : Table → ℕ → Option ℕ
 disjointFrom t k = first (λ j. not (meets (element t k) (element t j))) k
 
--- rule 7
 unfoldable pub missing : Table → ℕ → Bool
 missing t k = any (λ K. not (persistentFor K (element t k))) (persistents t)
 

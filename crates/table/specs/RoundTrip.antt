@@ -1,4 +1,5 @@
 -- Tables there and back (01, demand 2: files round-trip to the byte).
+--     TableRoundTrip    a record written and read, a file read and written
 -- Assumes nothing.
 use mathlib.Core.Bool.{true}
 use mathlib.Core.List.{List}

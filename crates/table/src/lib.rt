@@ -32,13 +32,13 @@ pub struct TableRead {
 pub fn check(table: Table) -> Verdict
     ensures { λ r. ⌜ r ≡ recordVerdict table ⌝ }
 {
-    if record::bad_count(table.count) {
+    if record::is_bad_count(table.count) {
         return verdict::refused(verdict::ELEMENT_COUNT, 0);
     }
     if let Search::Found(k) = record::first_bad_place(table) {
         return verdict::refused(verdict::ELEMENT_RANGE, k + 1);
     }
-    if !mask::valid(table.persistent) {
+    if !mask::is_valid(table.persistent) {
         return verdict::refused(verdict::PERSISTENT_RANGE, table.count + 1);
     }
     record::relations(table)

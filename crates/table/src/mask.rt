@@ -9,8 +9,8 @@ ghost use mathlib.Core.Bool.{not, _&&_};
 ghost use mathlib.Core.Path.{_≡_};
 ghost use Prim.Native.Nat.{ℕ, _<_, _^_};
 ghost use Rattle.seq.specs.Bits.{bit};
+ghost use Rattle.table.specs.Code.Search.{found, badAfter};
 ghost use Rattle.table.specs.Mask.{validMask, sumInside, sum, partner, unpartnered};
-ghost use Rattle.table.specs.Search.{found, badAfter};
 
 // What a search answers: the lowest that it looked for.
 pub(crate) enum Search {
@@ -38,17 +38,17 @@ const COLUMNS: [u64; 5] = [
     0b00111 * EACH_ROW,
 ];
 
-pub(crate) fn valid(mask: u32) -> bool
+pub(crate) fn is_valid(mask: u32) -> bool
     ensures { λ r. ⌜ r ≡ validMask mask ⌝ }
 {
     1 <= mask && mask <= LARGEST
 }
 
 // Rule 4 on an element, after the element before it (0 where there is none).
-pub(crate) fn bad_after(before: u32, element: u32) -> bool
+pub(crate) fn is_bad_after(before: u32, element: u32) -> bool
     ensures { λ r. ⌜ r ≡ badAfter before element ⌝ }
 {
-    if !valid(element) {
+    if !is_valid(element) {
         return true;
     }
     if (element >> CENTRE) % 2 == 1 {

@@ -4,8 +4,8 @@ ghost use Prim.Native.Nat.{_+_, _*_, _%_, _≤_};
 ghost use lib.ListN.{length, take, drop};
 ghost use lib.Seq.{sets};
 ghost use Rattle.seq.specs.Lists.{one};
+ghost use Rattle.table.specs.Code.Cursor.{numberAt};
 ghost use Rattle.table.specs.Number.{more, groups, groupCount, numberBytes};
-ghost use Rattle.table.specs.Cursor.{numberAt};
 
 // What reading finds: the number and the position past it, or the refusal's number, 1 or 2.
 pub enum NumberRead {

@@ -9,10 +9,10 @@ use verdict::Verdict;
 ghost use mathlib.Core.Path.{_≡_};
 ghost use Prim.Native.Nat.{_≤_};
 ghost use lib.ListN.{drop};
+ghost use Rattle.table.specs.Code.Reading.{CountRead, ElementsRead, LastRead, behindRules};
+ghost use Rattle.table.specs.Code.Search.{InRange};
 ghost use Rattle.table.specs.File.{rest, number, tableOf, readAs, readTable};
-ghost use Rattle.table.specs.Reading.{CountRead, ElementsRead, LastRead, behindRules};
 ghost use Rattle.table.specs.Record.{zeroTable, meetRule, persistRule};
-ghost use Rattle.table.specs.Search.{InRange};
 ghost use Rattle.verdict.specs.Rules.{refusal, orElse, judge};
 ghost use Rattle.verdict.specs.declared.Verdict.the-variants as the-verdict;
 
@@ -42,7 +42,7 @@ pub(crate) fn read_counted(file: &[u8], count: usize, at: usize) -> TableRead
     requires { ⌜ CountRead (now file) count at ⌝ }
     ensures { λ r. ⌜ r ≡ readTable (now (file .entry)) ⌝ }
 {
-    if record::bad_count(count) {
+    if record::is_bad_count(count) {
         return refused(verdict::ELEMENT_COUNT, 0);
     }
     let got = read_elements(file, count, at);
@@ -73,7 +73,7 @@ fn read_elements(file: &[u8], count: usize, at: usize) -> Elements
                 };
             }
             NumberRead::Number(element, past) => {
-                if mask::bad_after(before, element) {
+                if mask::is_bad_after(before, element) {
                     return Elements {
                         verdict: verdict::refused(verdict::ELEMENT_RANGE, k + 1),
                         elements,
@@ -102,7 +102,7 @@ fn read_persistent(file: &[u8], count: usize, elements: [u32; 64], at: usize) ->
     match number::read_at(file, at) {
         NumberRead::Refused(number) => refused(number, count + 1),
         NumberRead::Number(persistent, past) => {
-            if !mask::valid(persistent) {
+            if !mask::is_valid(persistent) {
                 return refused(verdict::PERSISTENT_RANGE, count + 1);
             }
             if past < file.len() {

@@ -8,14 +8,14 @@ ghost use Prim.Native.Nat.{_<_, _^_};
 ghost use lib.ListN.{getD};
 ghost use Rattle.seq.specs.Lists.{isSome};
 ghost use Rattle.seq.specs.Tab.{first};
+ghost use Rattle.table.specs.Code.Search.{found, badNumber, lowestBad, InRange};
 ghost use Rattle.table.specs.Record.{badPlace, disjointFrom, missing, meetRule, persistRule};
-ghost use Rattle.table.specs.Search.{found, badNumber, lowestBad, InRange};
 ghost use Rattle.verdict.specs.Rules.{orElse};
 
 const MAX_ELEMENTS: usize = 64;
 
 // Rule 3.
-pub(crate) fn bad_count(count: usize) -> bool
+pub(crate) fn is_bad_count(count: usize) -> bool
     ensures { λ r. ⌜ r ≡ badNumber count ⌝ }
 {
     count < 1 || MAX_ELEMENTS < count
@@ -27,7 +27,7 @@ pub(crate) fn first_bad_place(table: Table) -> Search
 {
     let mut k = 0;
     while k < MAX_ELEMENTS {
-        if bad_place(table, k) {
+        if is_bad_place(table, k) {
             return Search::Found(k);
         }
         k += 1;
@@ -35,7 +35,7 @@ pub(crate) fn first_bad_place(table: Table) -> Search
     Search::Nothing
 }
 
-fn bad_place(table: Table, k: usize) -> bool
+fn is_bad_place(table: Table, k: usize) -> bool
     requires { ⌜ k < 64 ⌝ }
     ensures { λ r. ⌜ r ≡ badPlace table k ⌝ }
 {
@@ -44,9 +44,9 @@ fn bad_place(table: Table, k: usize) -> bool
         return element != 0;
     }
     if k == 0 {
-        return mask::bad_after(0, element);
+        return mask::is_bad_after(0, element);
     }
-    mask::bad_after(table.elements[k - 1], element)
+    mask::is_bad_after(table.elements[k - 1], element)
 }
 
 // Rules 5 and 7, of a record whose places and persistent element are in range.

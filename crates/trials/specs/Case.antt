@@ -1,6 +1,10 @@
 -- What a case of 01's "Trial sheets and tables" asks of the definitions.
---     Case        a case with what is expected
---     meets c     the definitions give what is expected
+--     Case                a case with what is expected
+--     sameTable t u       the two records are equal
+--     refusedWith v n p   the verdict refuses by number n at place p
+--     inner w h i         pixel i lies in the inside of the image
+--     countsAre j s p a r     the record has stage s, p passes, a added and r removed
+--     meets c             the definitions give what is expected
 -- Assumes nothing.
 use mathlib.Core.Bool.{Bool, false, not, _&&_}
 use mathlib.Core.List.{List, [], _∷_}
@@ -45,7 +49,6 @@ abbrev pub refusedWith : Verdict → ℕ → ℕ → Bool
 refusedWith Accepted n p = false
 refusedWith (Refused r) n p = eqb (r .number) n && eqb (r .place) p
 
--- pixel i lies in the inside of the image
 abbrev pub inner : ℕ → ℕ → ℕ → Bool
 inner w h i = (leb 1 (i / w) && ltb (i / w) (h - 1)) && (leb 1 (i % w) && ltb (i % w) (w - 1))
 

@@ -2,7 +2,9 @@
 --     refusal n p            the refusal with number n at place p
 --     refuseIf bad n p       refuse with n at p where the test bad holds
 --     refuseAt found n at    refuse with n at the place of what a search found
+--     orElse v w             the first verdict where it refuses, else the second
 --     judge rules            the first refusal of the list, in its order
+--     isAccepted v           the verdict refuses nothing
 -- Assumes nothing.
 use mathlib.Core.Bool.{Bool, true, false}
 use mathlib.Core.List.{List, [], _∷_}
@@ -23,7 +25,6 @@ abbrev pub refuseAt : Option ℕ → ℕ → (ℕ → ℕ) → Verdict
 refuseAt none n at = Accepted
 refuseAt (some k) n at = Refused (refusal n (at k))
 
--- the first verdict where it refuses, else the second
 abbrev pub orElse : Verdict → Verdict → Verdict
 orElse Accepted w = w
 orElse (Refused r) w = Refused r

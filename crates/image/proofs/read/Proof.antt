@@ -5,7 +5,7 @@ use Prim.Native.Nat.{ℕ}
 use native.Mathlib.Omega.{arith}
 use borrow.Author.Needs.{needs}
 use Rattle.image.specs.declared.layout.Layout.the-variants.{Image}
-use Rattle.image.specs.Layout.{layoutOf}
+use Rattle.image.specs.Code.Layout.{layoutOf}
 use Rattle.image.proofs.ReadOf.{read-refused, read-sides, read-start, read-length, read-short, read-filled}
 use Rattle.image.proofs.RowBytes.{pixels-few}
 use Rattle.image.proofs.read.Statement.{statement}

@@ -5,9 +5,9 @@ use Prim.Native.Nat.{ℕ, _+_, _*_, _≤_}
 use native.Mathlib.Omega.{arith}
 use borrow.Author.Needs.{needs}
 use lib.ListN.{length}
+use Rattle.image.specs.Code.Rows.{Sides}
 use Rattle.image.specs.File.{pixelVerdict}
 use Rattle.image.specs.Header.{header}
-use Rattle.image.specs.Rows.{Sides}
 use Rattle.image.specs.Size.{rowBytes}
 use Rattle.image.proofs.Decimal.{decimal-short}
 use Rattle.image.proofs.HeaderWritten.{header-length}

@@ -6,7 +6,7 @@ use borrow.Author.Needs.{needs}
 use borrow.Author.Tests.{not-true, not-false}
 use Rattle.image.specs.File.{pixelVerdict}
 use Rattle.verdict.specs.declared.Verdict.the-variants.{Accepted}
-use Rattle.filter.specs.Walk.{ranged}
+use Rattle.filter.specs.Applied.{ranged}
 use Rattle.filter.proofs.PassCodeApplied.{checked-table, checked-pixels, checked-area, checked-all}
 use Rattle.filter.proofs.PreviewLaws as pixels
 use Rattle.filter.proofs.apply.check.Statement.{statement}

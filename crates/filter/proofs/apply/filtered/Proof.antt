@@ -6,7 +6,7 @@ use borrow.Author.Needs.{needs}
 use lib.ListN.{length, take}
 use lib.Seq.{length-take-le}
 use Rattle.table.specs.Record.{masks}
-use Rattle.filter.specs.OpeningMap.{openMap}
+use Rattle.filter.specs.Code.OpeningMap.{openMap}
 use Rattle.filter.proofs.PassCodeChecks.{ranged-count, ranged-valid, elements-part, map-part, map-length}
 use Rattle.filter.proofs.PassCodeSizes.{product-le}
 use Rattle.filter.proofs.apply.filtered.Statement.{statement}

@@ -3,7 +3,7 @@ use mathlib.Core.Path.{sym}
 use borrow.Author.Needs.{needs}
 use borrow.Author.Tests.{lt-leb}
 use lib.Seq.{length-take-le}
-use Rattle.filter.specs.Walk.{ranged}
+use Rattle.filter.specs.Applied.{ranged}
 use Rattle.filter.proofs.PassCodeChecks.{ranged-of}
 use Rattle.filter.proofs.apply.is_ranged.Statement.{statement}
 use Rattle.filter.proofs.apply.is_ranged.Tie as tie

@@ -7,7 +7,7 @@ use native.Mathlib.Omega.{arith}
 use borrow.Author.Needs.{needs}
 use lib.ListN.{length}
 use Rattle.seq.specs.Bits.{bitsOf}
-use Rattle.filter.specs.Erosion.{places, span, spread, joined, Coded}
+use Rattle.filter.specs.Code.Erosion.{places, span, spread, joined, Coded}
 use Rattle.filter.proofs.OpeningErosion.{all-positions, dilate-none, dilate-set, dilate-clear}
 use Rattle.filter.proofs.opening.dilate.Statement.{statement}
 use Rattle.filter.proofs.opening.dilate.Tie as tie

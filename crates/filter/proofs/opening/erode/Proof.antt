@@ -7,7 +7,7 @@ use native.Mathlib.Omega.{arith}
 use borrow.Author.Needs.{needs}
 use lib.ListN.{length}
 use Rattle.seq.specs.Bits.{bitsOf}
-use Rattle.filter.specs.Erosion.{places, eroded, Coded}
+use Rattle.filter.specs.Code.Erosion.{places, eroded, Coded}
 use Rattle.filter.proofs.OpeningErosion.{all-positions, erode-none, erode-set, erode-clear}
 use Rattle.filter.proofs.opening.erode.Statement.{statement}
 use Rattle.filter.proofs.opening.erode.Tie as tie

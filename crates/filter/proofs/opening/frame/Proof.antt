@@ -5,7 +5,7 @@ use Prim.Native.Nat.{_-_}
 use native.Mathlib.Omega.{arith}
 use borrow.Author.Needs.{needs}
 use lib.ListN.{length}
-use Rattle.filter.specs.Erosion.{Framed}
+use Rattle.filter.specs.Code.Erosion.{Framed}
 use Rattle.filter.proofs.OpeningFrame.{AtRow, row-first, row-next, row-fits, frame-none, frame-more, frame-all}
 use Rattle.filter.proofs.opening.frame.Statement.{statement}
 use Rattle.filter.proofs.opening.frame.Tie as tie

@@ -6,7 +6,7 @@ use borrow.Author.Needs.{needs}
 use lib.ListN.{getD}
 use Rattle.seq.specs.Loops.{Swept}
 use Rattle.seq.proofs.Loops.{sweep-none, sweep-join, sweep-end}
-use Rattle.filter.specs.Erosion.{margin, stride}
+use Rattle.filter.specs.Code.Erosion.{margin, stride}
 use Rattle.filter.proofs.OpeningFrame.{AtRow, row-first, row-next, row-last, row-fits, place-row}
 use Rattle.filter.proofs.opening.unframe.Statement.{statement}
 use Rattle.filter.proofs.opening.unframe.Tie as tie

@@ -6,7 +6,7 @@ use Prim.Native.Nat.{_-_, _≤_}
 use native.Mathlib.Nat.{le-antisymm}
 use borrow.Author.Needs.{needs}
 use borrow.Author.Tests.{eqb-false, not-true}
-use Rattle.filter.specs.Walk.{Opened}
+use Rattle.filter.specs.Code.Walk.{Opened}
 use Rattle.filter.proofs.PassCodeRow.{opened-none, opened-above, opened-below}
 use Rattle.filter.proofs.walk.is_opened.Statement.{statement}
 use Rattle.filter.proofs.walk.is_opened.Tie as tie

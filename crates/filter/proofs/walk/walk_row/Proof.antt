@@ -7,7 +7,7 @@ use native.Mathlib.Omega.{arith}
 use borrow.Author.Needs.{needs}
 use lib.ListN.{length}
 use Rattle.seq.proofs.Grid.{cell-below, row-below, next-row}
-use Rattle.filter.specs.Walk.{walkedAt}
+use Rattle.filter.specs.Code.Walk.{walkedAt}
 use Rattle.filter.proofs.PassCodeRow.{opened-none, opened-more, Judged, judged-none, judged-skip, judged-more}
 use Rattle.filter.proofs.PassCodeWalk.{tally-le}
 use Rattle.operator.proofs.Window.{binary-at}

@@ -4,8 +4,8 @@ use mathlib.Core.Path.{_≡_, sym, _∙_}
 use borrow.Author.Needs.{needs}
 use borrow.Author.Tests.{not-true, not-false}
 use Rattle.image.specs.declared.number.Number.the-variants.{Value}
+use Rattle.image.specs.Code.Layout.{numberAt}
 use Rattle.image.specs.Header.{startsMagic, space}
-use Rattle.image.specs.Layout.{numberAt}
 use Rattle.image.proofs.HeaderOf.{no-magic, no-width, no-height, header-found}
 use Rattle.image.proofs.header.read.Statement.{statement}
 use Rattle.image.proofs.header.read.Tie as tie

@@ -6,8 +6,8 @@ use Prim.Native.Nat.{ℕ, _*_}
 use native.Mathlib.Omega.{arith}
 use borrow.Author.Needs.{needs}
 use Rattle.image.specs.declared.header.Header.the-variants.{Found}
-use Rattle.image.specs.Layout.{headerOf, layoutIf, layoutOf}
-use Rattle.image.specs.Rows.{Sides}
+use Rattle.image.specs.Code.Layout.{headerOf, layoutIf, layoutOf}
+use Rattle.image.specs.Code.Rows.{Sides}
 use Rattle.image.specs.Size.{badSize}
 use Rattle.image.proofs.LayoutOf.{layout-header, layout-start, layout-size, layout-length, layout-rows}
 use Rattle.image.proofs.RowBytes.{raster-few, sides}

@@ -2,7 +2,7 @@
 use Prim.Native.Nat.{_-_}
 use native.Mathlib.Omega.{arith}
 use borrow.Author.Needs.{needs}
-use Rattle.image.specs.Rows.{pixelIn}
+use Rattle.image.specs.Code.Rows.{pixelIn}
 use Rattle.image.proofs.Packed.{Packing, packing-none, packing-more, packing-all, packing-small, pixel-small}
 use Rattle.image.proofs.pack.pack_byte.Statement.{statement}
 use Rattle.image.proofs.pack.pack_byte.Tie as tie

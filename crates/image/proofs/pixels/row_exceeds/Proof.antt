@@ -4,7 +4,7 @@ use Prim.Native.Nat.{_+_, _-_, _≤_}
 use native.Mathlib.Omega.{arith}
 use borrow.Author.Needs.{needs}
 use borrow.Author.Tests.{lt-ltb, le-ltb}
-use Rattle.image.specs.Rows.{tooLarge}
+use Rattle.image.specs.Code.Rows.{tooLarge}
 use Rattle.image.proofs.pixels.row_exceeds.Statement.{statement}
 use Rattle.image.proofs.pixels.row_exceeds.Tie as tie
 use Rattle.seq.proofs.Notes.{Noted, note-none, note-yes, note-no, note-all}

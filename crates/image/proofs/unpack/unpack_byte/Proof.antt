@@ -3,7 +3,7 @@ use mathlib.Core.Path.{refl}
 use Prim.Native.Nat.{_-_, _≤_}
 use native.Mathlib.Omega.{arith}
 use borrow.Author.Needs.{needs}
-use Rattle.image.specs.Rows.{bytePixel}
+use Rattle.image.specs.Code.Rows.{bytePixel}
 use Rattle.image.proofs.unpack.unpack_byte.Statement.{statement}
 use Rattle.image.proofs.unpack.unpack_byte.Tie as tie
 use Rattle.seq.proofs.Stores.{Stored, stored-none, stored-more, stored-all, stored-length}

@@ -8,11 +8,11 @@ use Rattle.job.proofs.step.exceeds.Tie as tie
 returns : tie.Need-returns
 returns c = reached _ _ _ (c .if1 .taken)
 
-sum-above-requires : tie.Need-sum-above-requires
-sum-above-requires c κs = tt
+is-sum-above-requires : tie.Need-is-sum-above-requires
+is-sum-above-requires c κs = tt
 
 returns-2 : tie.Need-returns-2
-returns-2 c = c .sum-above .ensures ∙ not-reached _ _ _ (c .before .if1 .left)
+returns-2 c = c .is-sum-above .ensures ∙ not-reached _ _ _ (c .before .if1 .left)
 
 pub exceeds-spec : {M : Type 1} → statement M
-exceeds-spec = tie.close (tie.spec returns sum-above-requires returns-2)
+exceeds-spec = tie.close (tie.spec returns is-sum-above-requires returns-2)

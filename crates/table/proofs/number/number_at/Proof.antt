@@ -6,7 +6,7 @@ use borrow.Author.Needs.{needs}
 use borrow.Author.Tests.{eqb-true}
 use lib.ListN.{length-drop}
 use lib.Seq.{getD-drop}
-use Rattle.table.specs.Cursor.{numberAt}
+use Rattle.table.specs.Code.Cursor.{numberAt}
 use Rattle.table.proofs.Cursor.{number-past, number-short, number-long, number-zero, number-whole}
 use Rattle.table.proofs.number.number_at.Statement.{statement}
 use Rattle.table.proofs.number.number_at.Tie as tie

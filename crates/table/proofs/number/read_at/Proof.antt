@@ -40,9 +40,9 @@ use denote.Triple.Table.{entered, cited}
 use denote.Triple.Walked.{says, Stays, stay-none, stay-none-slice, walkOf, goes-none, goes-none-slice, Walks, ends-at, walked, walk-meets}
 use denote.Exit.{yes}
 use denote.Triple.Clauses.{ensured, lasts}
-use Rattle.table.specs.Cursor.{numberAt}
 use Rattle.table.specs.declared.number.Reader.{Reader}
 use Rattle.table.specs.declared.number.NumberRead.{NumberRead}
+use Rattle.table.specs.Code.Cursor.{numberAt}
 use Rattle.table.proofs.number.Reader as T
 use Rattle.table.proofs.number.Reader.Laws as T′
 use Rattle.table.proofs.number.NumberRead as S

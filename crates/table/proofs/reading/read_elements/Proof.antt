@@ -38,8 +38,8 @@ returns c =
 enum-known-element : tie.Need-enum-known-element Inv-loop μ-loop
 enum-known-element c = search needs
 
-bad-after-requires : tie.Need-bad-after-requires Inv-loop μ-loop
-bad-after-requires c κs = search needs
+is-bad-after-requires : tie.Need-is-bad-after-requires Inv-loop μ-loop
+is-bad-after-requires c κs = search needs
 
 add-refused-2 : tie.Need-add-refused-2 Inv-loop μ-loop
 add-refused-2 c = omega arith
@@ -52,7 +52,7 @@ returns-2 c =
     let turn = c .before .before .before .before .before .before .before in
     stepped-bad (turn .before .loop .inv) (omega (arith, turn .before .before .before .pre)) (omega (arith, turn, turn .before .before .before .pre))
     (sym (c .before .before .before .before .before .before .read-at .ensures) ∙ c .before .before .before .before .element .given .1) _
-    (sym (c .before .before .bad-after .ensures) ∙ c .before .if1 .taken) (c .refused2 .ensures)
+    (sym (c .before .before .is-bad-after .ensures) ∙ c .before .if1 .taken) (c .refused2 .ensures)
 
 mul-elements : tie.Need-mul-elements Inv-loop μ-loop
 mul-elements c = omega arith
@@ -71,7 +71,7 @@ loop-again c =
     let turn = c .before .before .before .before .before .before in
     stepped-more (turn .before .loop .inv) (omega (arith, turn .before .before .before .pre)) (omega (arith, turn, turn .before .before .before .pre))
     (sym (c .before .before .before .before .before .read-at .ensures) ∙ c .before .before .before .element .given .1)
-    (sym (c .before .bad-after .ensures) ∙ c .if1 .left)
+    (sym (c .before .is-bad-after .ensures) ∙ c .if1 .left)
 
 returns-3 : tie.Need-returns-3 Inv-loop μ-loop
 returns-3 c = stepped-all (c .before .loop .inv) (omega arith)
@@ -89,7 +89,7 @@ read-elements-spec =
     refused-requires
     returns
     enum-known-element
-    bad-after-requires
+    is-bad-after-requires
     add-refused-2
     refused-requires-2
     returns-2

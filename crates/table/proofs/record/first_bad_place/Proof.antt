@@ -5,8 +5,8 @@ use Prim.Native.Nat.{_-_}
 use native.Mathlib.Omega.{arith}
 use borrow.Author.Needs.{needs}
 use Rattle.seq.proofs.Search.{Passed, passed-none, passed-more, passed-found, passed-all}
+use Rattle.table.specs.Code.Search.{lowestBad}
 use Rattle.table.specs.Record.{badPlace}
-use Rattle.table.specs.Search.{lowestBad}
 use Rattle.table.proofs.record.first_bad_place.Statement.{statement}
 use Rattle.table.proofs.record.first_bad_place.Tie as tie
 
@@ -19,12 +19,12 @@ abbrev μ-loop : tie.MeasureT-loop
 loop-holds : tie.Need-loop-holds Inv-loop μ-loop
 loop-holds c = passed-none
 
-bad-place-requires : tie.Need-bad-place-requires Inv-loop μ-loop
-bad-place-requires c κs = search needs
+is-bad-place-requires : tie.Need-is-bad-place-requires Inv-loop μ-loop
+is-bad-place-requires c κs = search needs
 
 returns : tie.Need-returns Inv-loop μ-loop
 unfolding lowestBad
-returns c = passed-found (c .before .before .before .loop .inv) (omega arith) (sym (c .before .bad-place .ensures) ∙ c .if1 .taken)
+returns c = passed-found (c .before .before .before .loop .inv) (omega arith) (sym (c .before .is-bad-place .ensures) ∙ c .if1 .taken)
 
 add-k : tie.Need-add-k Inv-loop μ-loop
 add-k c = search needs
@@ -33,7 +33,7 @@ loop-less : tie.Need-loop-less Inv-loop μ-loop
 loop-less c = omega arith
 
 loop-again : tie.Need-loop-again Inv-loop μ-loop
-loop-again c = passed-more (c .before .before .before .loop .inv) (omega arith) (sym (c .before .bad-place .ensures) ∙ c .if1 .left)
+loop-again c = passed-more (c .before .before .before .loop .inv) (omega arith) (sym (c .before .is-bad-place .ensures) ∙ c .if1 .left)
 
 returns-2 : tie.Need-returns-2 Inv-loop μ-loop
 unfolding lowestBad
@@ -46,7 +46,7 @@ first-bad-place-spec =
     Inv-loop
     μ-loop
     loop-holds
-    bad-place-requires
+    is-bad-place-requires
     returns
     add-k
     loop-less

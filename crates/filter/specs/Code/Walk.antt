@@ -1,5 +1,4 @@
 -- One pass by the opening map (the module `walk`): what the code computes from pixels and map.
---     ranged t                       the table has a fitting count, and its elements are valid masks
 --     Walkable es w h px codes       what it asks: valid elements, an image, and a map of the same size
 --     Opened codes s lo hi           in the row that begins at s, the pixels from column lo to before hi are opened
 --     Copied px l lo hi              l has the pixels from lo to before hi
@@ -13,19 +12,14 @@ use mathlib.Core.Bool.{Bool, true, cond, _&&_}
 use mathlib.Core.List.{List}
 use mathlib.Core.Path.{_≡_}
 use Prim.Native.Nat.{ℕ, _+_, _-_, _*_, _/_, _%_, _≤_, _<_}
-use lib.Dec.{leb, eqb}
+use lib.Dec.{eqb}
 use lib.ListN.{length, getD}
-use Rattle.filter.specs.Elements.{matched}
+use Rattle.filter.specs.Code.Elements.{matched}
 use Rattle.operator.specs.Image.{pixel, IsImage}
 use Rattle.operator.specs.Window.{window}
 use Rattle.seq.specs.Lists.{all, count}
 use Rattle.seq.specs.Tab.{tab, upTo}
-use Rattle.table.specs.declared.Table.{Table}
 use Rattle.table.specs.Mask.{validMask}
-use Rattle.table.specs.Record.{maxElements, masks}
-
-unfoldable pub ranged : Table → Bool
-ranged t = leb (t .count) maxElements && all validMask (masks t)
 
 pub record Walkable (es : List ℕ) (w h : ℕ) (px codes : List ℕ) : Type 0 where
   pub valid : all validMask es ≡ true

@@ -1,4 +1,4 @@
--- `job::sound::inconsistent`: each answer rewrites the definition by the tests that led there.
+-- `job::sound::is_inconsistent`: each answer rewrites the definition by the tests that led there.
 -- Assumes nothing.
 use mathlib.Core.Path.{sym, _∙_}
 use native.Mathlib.Omega.{arith}
@@ -7,8 +7,8 @@ use borrow.Author.Tests.{lt-ltb, le-ltb}
 use Rattle.history.specs.State.{inconsistent}
 use Rattle.job.proofs.Inconsistent.{pixels-seen, stained, many-passes, counts-left}
 use Rattle.job.proofs.Settled.{small}
-use Rattle.job.proofs.sound.inconsistent.Statement.{statement}
-use Rattle.job.proofs.sound.inconsistent.Tie as tie
+use Rattle.job.proofs.sound.is_inconsistent.Statement.{statement}
+use Rattle.job.proofs.sound.is_inconsistent.Tie as tie
 
 is-bad-requires : tie.Need-is-bad-requires
 is-bad-requires c κs = tt
@@ -66,8 +66,8 @@ returns-4 c =
 image-requires : tie.Need-image-requires
 image-requires c κs = search needs
 
-above-one-requires : tie.Need-above-one-requires
-above-one-requires c κs = tt
+any-above-one-requires : tie.Need-any-above-one-requires
+any-above-one-requires c κs = tt
 
 returns-5 : tie.Need-returns-5
 returns-5 c =
@@ -77,7 +77,7 @@ returns-5 c =
     let check = told .before .before in
     let size = check .before .before in
     stained _ (sym (size .before .is-bad .ensures) ∙ size .if1 .left) (sym (check .check .ensures) ∙ told .enum-told2 .given .1)
-    (areas .before .if2 .left) (areas .if3 .left) (pixels-seen (seen .before .image .ensures) (seen .above-one .ensures) ∙ c .if4 .taken)
+    (areas .before .if2 .left) (areas .if3 .left) (pixels-seen (seen .before .image .ensures) (seen .any-above-one .ensures) ∙ c .if4 .taken)
 
 returns-6 : tie.Need-returns-6
 returns-6 c =
@@ -88,10 +88,10 @@ returns-6 c =
     let check = told .before .before in
     let size = check .before .before in
     many-passes _ (sym (size .before .is-bad .ensures) ∙ size .if1 .left) (sym (check .check .ensures) ∙ told .enum-told2 .given .1)
-    (areas .before .if2 .left) (areas .if3 .left) (pixels-seen (seen .before .image .ensures) (seen .above-one .ensures) ∙ pixel .if4 .left) (c .if5 .taken)
+    (areas .before .if2 .left) (areas .if3 .left) (pixels-seen (seen .before .image .ensures) (seen .any-above-one .ensures) ∙ pixel .if4 .left) (c .if5 .taken)
 
-sum-above-requires : tie.Need-sum-above-requires
-sum-above-requires c κs = tt
+is-sum-above-requires : tie.Need-is-sum-above-requires
+is-sum-above-requires c κs = tt
 
 returns-7 : tie.Need-returns-7
 returns-7 c =
@@ -101,12 +101,12 @@ returns-7 c =
     let told = areas .before .before .before in
     let check = told .before .before in
     let size = check .before .before in
-    c .sum-above .ensures
+    c .is-sum-above .ensures
     ∙ counts-left _ (sym (size .before .is-bad .ensures) ∙ size .if1 .left) (sym (check .check .ensures) ∙ told .enum-told2 .given .1)
-    (areas .before .if2 .left) (areas .if3 .left) (pixels-seen (seen .before .image .ensures) (seen .above-one .ensures) ∙ pixel .if4 .left) (c .before .if5 .left)
+    (areas .before .if2 .left) (areas .if3 .left) (pixels-seen (seen .before .image .ensures) (seen .any-above-one .ensures) ∙ pixel .if4 .left) (c .before .if5 .left)
 
-pub inconsistent-spec : {M : Type 1} → statement M
-inconsistent-spec =
+pub is-inconsistent-spec : {M : Type 1} → statement M
+is-inconsistent-spec =
     tie.close
     (tie.spec
     is-bad-requires
@@ -119,8 +119,8 @@ inconsistent-spec =
     returns-3
     returns-4
     image-requires
-    above-one-requires
+    any-above-one-requires
     returns-5
     returns-6
-    sum-above-requires
+    is-sum-above-requires
     returns-7)

@@ -9,10 +9,10 @@ use mathlib.Core.Option.{none}
 use mathlib.Core.Path.{_≡_}
 use Prim.Native.Nat.{ℕ, _+_, _≤_}
 use lib.ListN.{drop}
+use Rattle.table.specs.Code.Search.{lowestBad}
 use Rattle.table.specs.File.{rest, number, tableOf, elementsRules, persistentRules, lastRules}
 use Rattle.table.specs.Number.{numberRules}
 use Rattle.table.specs.Record.{maxElements}
-use Rattle.table.specs.Search.{lowestBad}
 use Rattle.verdict.specs.declared.Verdict.{Verdict}
 use Rattle.verdict.specs.declared.Verdict.the-variants.{Accepted}
 use Rattle.verdict.specs.Rules.{judge}

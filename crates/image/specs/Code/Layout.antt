@@ -3,6 +3,7 @@
 --     rasterStart f        where the raster starts
 --     headerOf f           width, height and the raster's start, where the header has the strict form
 --     layoutOf f           width, height and the raster's start of an accepted file, or the refusal
+--     numberIf, headerIf, layoutIf    these by the test or verdict that they depend on
 -- Assumes nothing.
 use mathlib.Core.Bool.{Bool, true, false, _&&_}
 use mathlib.Core.List.{List}

@@ -1,4 +1,4 @@
--- `job::sound::above_one`: the join of the bytes passed is above 1 exactly when one of them is.
+-- `job::sound::any_above_one`: the join of the bytes passed is above 1 exactly when one of them is.
 -- Assumes nothing.
 use mathlib.Core.Path.{_≡_, ap, _∙_}
 use Prim.Native.Nat.{_≤_, _-_}
@@ -8,8 +8,8 @@ use lib.ListN.{length, take}
 use lib.Seq.{take-all}
 use Rattle.seq.specs.Lists.{any}
 use Rattle.job.proofs.Seen.{seen-more}
-use Rattle.job.proofs.sound.above_one.Statement.{statement}
-use Rattle.job.proofs.sound.above_one.Tie as tie
+use Rattle.job.proofs.sound.any_above_one.Statement.{statement}
+use Rattle.job.proofs.sound.any_above_one.Tie as tie
 
 abbrev Inv-loop : tie.InvT-loop
 Inv-loop bytes seen₀ i₀ seen i = (i ≤ length bytes) × (ltb 1 seen ≡ any (ltb 1) (take i bytes))
@@ -37,7 +37,7 @@ loop-again c =
 returns : tie.Need-returns Inv-loop μ-loop
 returns c = c .before .loop .inv .1 ∙ ap (any (ltb 1)) (take-all _ _ (c .loop-test .left))
 
-pub above-one-spec : {M : Type 1} → statement M
-above-one-spec =
+pub any-above-one-spec : {M : Type 1} → statement M
+any-above-one-spec =
     tie.close
     (tie.spec Inv-loop μ-loop loop-holds shared-slice-read-seen add-i loop-less loop-again returns)

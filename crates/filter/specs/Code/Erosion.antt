@@ -15,6 +15,7 @@
 --     colours p                the code with bit v for p v
 --     places                   the positions of a window
 --     margin, stride w         the frame's breadth, and the length of a framed row
+--     within size i            place i of a framed side of that size lies in the image
 --     shift s b                how far behind a window's first pixel its position b lies, where rows are s long; span s: the last
 --     framedIs w h img v r c   place (r, c) of the framed image lies in the image and has the value v
 --     Framed w h n img l       l begins with the frame for w × h pixels, and the first n rows of the image stand in it

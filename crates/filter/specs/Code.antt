@@ -1,0 +1,5 @@
+-- What the private functions of the crate promise one another. A reader of the claims does not need it.
+pub mod OpeningMap
+pub mod Erosion
+pub mod Elements
+pub mod Walk
