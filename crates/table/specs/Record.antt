@@ -1,4 +1,5 @@
 -- The verdict on a table record (01: 3, 4, 6, 5, 7).
+--     maxElements       the most elements of a table, and the element places of a record
 --     element t k       element place k, from 0
 --     masks t           the elements
 --     persistents t     the persistent elements (01: the keeper)

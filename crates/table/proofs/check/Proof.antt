@@ -7,7 +7,7 @@ use native.Mathlib.Omega.{arith}
 use borrow.Author.Needs.{needs}
 use borrow.Author.Tests.{not-false}
 use Rattle.table.specs.Mask.{validMask}
-use Rattle.table.specs.Record.{badPlace}
+use Rattle.table.specs.Record.{maxElements, badPlace}
 use Rattle.table.specs.Search.{found, badNumber, lowestBad}
 use Rattle.table.proofs.Positions.{mask-lt}
 use Rattle.table.proofs.Verdicts.{search-lt, count-le, record-count, record-place, record-persistent, record-relations}
@@ -22,7 +22,7 @@ placed : (c : tie.After-enum-told) → lowestBad (c .before .before .before .bef
 placed c = sym (c .before .before .first-bad-place .ensures) ∙ ap found (c .enum-told .given .1)
 
 valid : (c : tie.Else2) → not (validMask (c .before .before .before .before .before .before .before .args .table .persistent)) ≡ false
-valid c = ap not (sym (c .before .valid .ensures)) ∙ c .if2 .left
+valid c = ap not (sym (c .before .is-valid .ensures)) ∙ c .if2 .left
 
 bad-count-requires : tie.Need-bad-count-requires
 bad-count-requires c κs = search needs
@@ -43,7 +43,7 @@ add-refused : tie.Need-add-refused
 unfolding lowestBad
 add-refused c =
     let t = c .before .before .before .before .before .before .args .table in
-    omega (arith, search-lt (badPlace t) 64 (c .before .before .before .first-bad-place .ensures) (c .before .k .given .1))
+    omega (arith, search-lt (badPlace t) maxElements (c .before .before .before .first-bad-place .ensures) (c .before .k .given .1))
 
 refused-requires-2 : tie.Need-refused-requires-2
 refused-requires-2 c κs = search needs
@@ -57,8 +57,8 @@ returns-2 c =
 enum-told : tie.Need-enum-told
 enum-told c = search needs
 
-valid-requires : tie.Need-valid-requires
-valid-requires c κs = search needs
+is-valid-requires : tie.Need-is-valid-requires
+is-valid-requires c κs = search needs
 
 add-refused-2 : tie.Need-add-refused-2
 add-refused-2 c = omega (arith, count-le _ (counted (c .before .before .before .before .before .before)))
@@ -71,7 +71,7 @@ returns-3 c =
     let told = c .before .before .before .before in
     c .refused3 .ensures
     ∙ sym (record-persistent _ (counted (told .before .before .before)) (placed told)
-    (ap not (sym (c .before .before .before .valid .ensures)) ∙ c .before .before .if2 .taken))
+    (ap not (sym (c .before .before .before .is-valid .ensures)) ∙ c .before .before .if2 .taken))
 
 relations-requires : tie.Need-relations-requires
 relations-requires c κs =
@@ -96,7 +96,7 @@ check-spec =
     refused-requires-2
     returns-2
     enum-told
-    valid-requires
+    is-valid-requires
     add-refused-2
     refused-requires-3
     returns-3

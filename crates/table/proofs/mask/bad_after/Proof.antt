@@ -8,12 +8,12 @@ use Rattle.table.specs.Search.{badAfter}
 use Rattle.table.proofs.mask.bad_after.Statement.{statement}
 use Rattle.table.proofs.mask.bad_after.Tie as tie
 
-valid-requires : tie.Need-valid-requires
-valid-requires c κs = search needs
+is-valid-requires : tie.Need-is-valid-requires
+is-valid-requires c κs = search needs
 
 returns : tie.Need-returns
 unfolding badAfter
-returns c = simp (ap not (sym (c .before .valid .ensures)) ∙ c .if1 .taken)
+returns c = simp (ap not (sym (c .before .is-valid .ensures)) ∙ c .if1 .taken)
 
 cast-if2 : tie.Need-cast-if2
 cast-if2 c = search needs
@@ -23,11 +23,11 @@ shr-if2 c = search needs
 
 returns-2 : tie.Need-returns-2
 unfolding badAfter
-returns-2 c = simp (ap not (sym (c .before .before .valid .ensures)) ∙ c .before .if1 .left, bit-one (c .before .before .before .args .element) 12 (c .if2 .taken))
+returns-2 c = simp (ap not (sym (c .before .before .is-valid .ensures)) ∙ c .before .if1 .left, bit-one (c .before .before .before .args .element) 12 (c .if2 .taken))
 
 returns-3 : tie.Need-returns-3
 unfolding badAfter
-returns-3 c = simp (ap not (sym (c .before .before .valid .ensures)) ∙ c .before .if1 .left, bit-none (c .before .before .before .args .element) 12 (c .if2 .left))
+returns-3 c = simp (ap not (sym (c .before .before .is-valid .ensures)) ∙ c .before .if1 .left, bit-none (c .before .before .before .args .element) 12 (c .if2 .left))
 
 pub bad-after-spec : {M : Type 1} → statement M
-bad-after-spec = tie.close (tie.spec valid-requires returns cast-if2 shr-if2 returns-2 returns-3)
+bad-after-spec = tie.close (tie.spec is-valid-requires returns cast-if2 shr-if2 returns-2 returns-3)

@@ -1,9 +1,9 @@
--- `mask::valid` meets its contract: each half of the test, as it is left.
+-- `mask::is_valid` meets its contract: each half of the test, as it is left.
 -- Assumes nothing.
 use borrow.Author.Tests.{le-leb, lt-leb}
 use Rattle.table.specs.Mask.{validMask}
-use Rattle.table.proofs.mask.valid.Statement.{statement}
-use Rattle.table.proofs.mask.valid.Tie as tie
+use Rattle.table.proofs.mask.is_valid.Statement.{statement}
+use Rattle.table.proofs.mask.is_valid.Tie as tie
 
 returns : tie.Need-returns
 unfolding validMask
@@ -13,5 +13,5 @@ returns-2 : tie.Need-returns-2
 unfolding validMask
 returns-2 c = simp (lt-leb _ _ (c .if1 .left))
 
-pub valid-spec : {M : Type 1} → statement M
-valid-spec = tie.close (tie.spec returns returns-2)
+pub is-valid-spec : {M : Type 1} → statement M
+is-valid-spec = tie.close (tie.spec returns returns-2)

@@ -29,8 +29,8 @@ refused-requires c κs = search needs
 enum-known-persistent : tie.Need-enum-known-persistent
 enum-known-persistent c = search needs
 
-valid-requires : tie.Need-valid-requires
-valid-requires c κs = search needs
+is-valid-requires : tie.Need-is-valid-requires
+is-valid-requires c κs = search needs
 
 add-refused-2 : tie.Need-add-refused-2
 add-refused-2 c = search needs
@@ -45,7 +45,7 @@ returns c =
     ∙ last-by _
     (last-range (start .pre)
     (sym (c .before .before .before .before .before .before .read-at .ensures) ∙ c .before .before .before .before .persistent .given .1)
-    (ap not (sym (c .before .before .valid .ensures)) ∙ c .before .if1 .taken))
+    (ap not (sym (c .before .before .is-valid .ensures)) ∙ c .before .if1 .taken))
 
 add-refused-3 : tie.Need-add-refused-3
 add-refused-3 c = search needs
@@ -60,7 +60,7 @@ returns-2 c =
     ∙ last-by _
     (last-bytes (start .pre)
     (sym (c .before .before .before .before .before .before .before .read-at .ensures) ∙ c .before .before .before .before .before .persistent .given .1)
-    (ap not (sym (c .before .before .before .valid .ensures)) ∙ c .before .before .if1 .left) (c .before .if2 .taken))
+    (ap not (sym (c .before .before .before .is-valid .ensures)) ∙ c .before .before .if1 .left) (c .before .if2 .taken))
 
 related-requires : tie.Need-related-requires
 related-requires c κs =
@@ -69,7 +69,7 @@ related-requires c κs =
     record {
       few = start .pre .within;
       placed = ap lowestBad (last-table (start .pre) read) ∙ start .pre .placed;
-      masked = mask-lt _ (not-false _ (ap not (sym (c .before .before .valid .ensures)) ∙ c .before .if1 .left));
+      masked = mask-lt _ (not-false _ (ap not (sym (c .before .before .is-valid .ensures)) ∙ c .before .if1 .left));
     }
 
 returns-3 : tie.Need-returns-3
@@ -82,7 +82,7 @@ returns-4 : tie.Need-returns-4
 returns-4 c =
     let start = c .before .before .before .before .before .before .before .before .before in
     let read = sym (c .before .before .before .before .before .before .before .read-at .ensures) ∙ c .before .before .before .before .before .persistent .given .1 in
-    let ranged = ap not (sym (c .before .before .before .valid .ensures)) ∙ c .before .before .if1 .left in
+    let ranged = ap not (sym (c .before .before .before .is-valid .ensures)) ∙ c .before .before .if1 .left in
     c .related .ensures
     ∙ ap (λ (t : Table). readAs (orElse (meetRule t) (persistRule t)) t) (last-table (start .pre) read)
     ∙ last-by _ (last-relations (start .pre) read ranged (c .before .if2 .left))
@@ -96,7 +96,7 @@ read-persistent-spec =
     add-refused
     refused-requires
     enum-known-persistent
-    valid-requires
+    is-valid-requires
     add-refused-2
     refused-requires-2
     returns
