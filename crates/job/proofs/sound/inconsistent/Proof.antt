@@ -6,7 +6,7 @@ use borrow.Author.Needs.{needs}
 use borrow.Author.Tests.{lt-ltb, le-ltb}
 use Rattle.history.specs.State.{inconsistent}
 use Rattle.job.proofs.Inconsistent.{pixels-seen, stained, many-passes, counts-left}
-use Rattle.job.proofs.Settled.{small}
+use Rattle.image.proofs.RowBytes.{pixels-few, sides}
 use Rattle.job.proofs.sound.inconsistent.Statement.{statement}
 use Rattle.job.proofs.sound.inconsistent.Tie as tie
 
@@ -36,7 +36,7 @@ enum-told-2 c = search needs
 mul-pixels : tie.Need-mul-pixels
 mul-pixels c =
     let size = c .before .before .before .before .before in
-    omega (arith, small _ _ (sym (size .before .is-bad .ensures) ∙ size .if1 .left))
+    omega (arith, pixels-few (sides _ _ (sym (size .before .is-bad .ensures) ∙ size .if1 .left)))
 
 returns-3 : tie.Need-returns-3
 unfolding inconsistent
