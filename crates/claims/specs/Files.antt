@@ -14,10 +14,10 @@ use Rattle.image.specs.Header.{widthOf, heightOf}
 use Rattle.table.proofs.RoundTrip.{table-round-trip}
 use Rattle.table.specs.declared.Table.{Table}
 use Rattle.table.specs.File.{tableOf, fileVerdict, tableBytes}
-use Rattle.table.specs.Record.{recordVerdict}
+use Rattle.table.specs.Record.{maxElements, recordVerdict}
 use Rattle.verdict.specs.declared.Verdict.the-variants.{Accepted}
 
-pub table-back : (t : Table) → length (t .elements) ≡ 64 → recordVerdict t ≡ Accepted
+pub table-back : (t : Table) → length (t .elements) ≡ maxElements → recordVerdict t ≡ Accepted
     → (fileVerdict (tableBytes t) ≡ Accepted) × (tableOf (tableBytes t) ≡ t)
 table-back = table-round-trip .record-back
 

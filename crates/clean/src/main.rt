@@ -4,16 +4,15 @@ mod say;
 
 use history::Job;
 use history::Passed;
+use image::size::MAX_PIXELS;
 use table::Table;
 use verdict::Verdict;
 use verdict::Written;
 
 // One byte more than the longest accepted file, so that a longer one is refused as its whole self would be.
-const TABLE_ROOM: usize = 262;
+const TABLE_ROOM: usize = table::MAX_FILE + 1;
 
-const SHEET_ROOM: usize = 8204;
-
-const AREA: usize = 65536;
+const SHEET_ROOM: usize = image::MAX_FILE + 1;
 
 fn main() {
     let mut file = [0u8; TABLE_ROOM];
@@ -30,8 +29,8 @@ fn main() {
     }
 }
 
-fn area() -> [u8; AREA] {
-    [0u8; AREA]
+fn area() -> [u8; MAX_PIXELS] {
+    [0u8; MAX_PIXELS]
 }
 
 fn clean(table: Table) {

@@ -22,7 +22,7 @@ use Rattle.seq.specs.Tab.{tab}
 use Rattle.seq.proofs.Bits.{all-and}
 use Rattle.seq.proofs.Lists.{or-left, any-ext, any-none, all-elim}
 use Rattle.seq.proofs.Tests.{between}
-use Rattle.table.specs.Mask.{largestMask, positions, validMask}
+use Rattle.table.specs.Mask.{positionCount, largestMask, positions, validMask}
 use Rattle.filter.specs.Code.Elements.{matched}
 use Rattle.operator.proofs.Pattern.{bits-tab}
 use Rattle.operator.specs.Preview.{fromBits}
@@ -34,11 +34,11 @@ rowBits win v y = fromBits (tab (λ x. one (eqb (getD (getD win y []) x 0) v)) 5
 
 -- five rows, each above the one before, are the 25 positions
 pub mask-bits : (win : List (List ℕ)) (v : ℕ) {a b c d e : ℕ} → a ≡ rowBits win v 0 → b ≡ rowBits win v 1 → c ≡ rowBits win v 2 → d ≡ rowBits win v 3
-    → e ≡ rowBits win v 4 → (n : ℕ) → n < 25 → bit (a + 32 * b + 1024 * (c + 32 * (d + 32 * e))) n ≡ eqb (windowAt win n) v
+    → e ≡ rowBits win v 4 → (n : ℕ) → n < positionCount → bit (a + 32 * b + 1024 * (c + 32 * (d + 32 * e))) n ≡ eqb (windowAt win n) v
 mask-bits win v {a} {b} {c} {d} {e} ha hb hc hd he n l =
-    ap (λ (m : ℕ). bit m n) whole ∙ bits-tab (λ n. eqb (windowAt win n) v) 25 n l
+    ap (λ (m : ℕ). bit m n) whole ∙ bits-tab (λ n. eqb (windowAt win n) v) positionCount n l
   where
-    whole : a + 32 * b + 1024 * (c + 32 * (d + 32 * e)) ≡ fromBits (tab (λ n. one (eqb (windowAt win n) v)) 25)
+    whole : a + 32 * b + 1024 * (c + 32 * (d + 32 * e)) ≡ fromBits (tab (λ n. one (eqb (windowAt win n) v)) positionCount)
     whole = omega arith
 
 module _ {ℓ} {A : Type ℓ} (p : A → Bool) (l : List A) (i : ℕ) where
@@ -61,16 +61,16 @@ module _ {ℓ} {A : Type ℓ} (p : A → Bool) (l : List A) (i : ℕ) where
   all-end h = ap (all p) (drop-of-length-le l h)
 
 module _ (es : List ℕ) (valid : all validMask es ≡ true) where
-  pub matched-within : (win : List (List ℕ)) (v m : ℕ) → ((n : ℕ) → n < 25 → bit m n ≡ eqb (windowAt win n) v)
+  pub matched-within : (win : List (List ℕ)) (v m : ℕ) → ((n : ℕ) → n < positionCount → bit m n ≡ eqb (windowAt win n) v)
       → matched es win v ≡ any (λ e. eqb (bitAnd e m) e) es
   unfolding matched positions validMask
   matched-within win v m h =
       any-ext (λ e. all (λ n. eqb (windowAt win n) v) (positions e)) (λ e. eqb (bitAnd e m) e) es
       (λ e i. let r = between 1 e largestMask (all-elim validMask valid i) in
-      all-and (λ n. eqb (windowAt win n) v) 25 e m (omega arith) h)
+      all-and (λ n. eqb (windowAt win n) v) positionCount e m (omega arith) h)
 
   -- no valid element fits into the empty mask
-  pub matched-none : (win : List (List ℕ)) (v : ℕ) {m : ℕ} → ((n : ℕ) → n < 25 → bit m n ≡ eqb (windowAt win n) v) → m ≡ 0 → matched es win v ≡ false
+  pub matched-none : (win : List (List ℕ)) (v : ℕ) {m : ℕ} → ((n : ℕ) → n < positionCount → bit m n ≡ eqb (windowAt win n) v) → m ≡ 0 → matched es win v ≡ false
   unfolding validMask
   matched-none win v {m} h z = matched-within win v m h ∙ any-none (λ e. eqb (bitAnd e m) e) es none
     where

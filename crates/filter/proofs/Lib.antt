@@ -4,7 +4,6 @@ pub mod PassCodeApplied
 pub mod PreviewLaws
 pub mod ElementsShared
 pub mod PassCodeRow
-pub mod PassCodeSizes
 pub mod PassCodeWalk
 pub mod ElementsLaws
 pub mod OpeningCodes

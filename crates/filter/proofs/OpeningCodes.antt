@@ -1,5 +1,4 @@
 -- The laws of codes, numbers whose bit v says something of the value v.
---     binary-at                    a pixel is 0 or 1
 --     each-colour                  what holds of 0 and 1 holds of each value
 --     colours-ext, colours-small   by values; below 4
 --     bit-colours, code-colours    a bit of a code, and a code by its bits
@@ -7,24 +6,17 @@
 --     pixel-colours                a pixel's code
 -- Assumes nothing.
 use mathlib.Core.Bool.{Bool, true, false, _&&_, _||_}
-use mathlib.Core.List.{List, [], _∷_}
 use mathlib.Core.Logic.{⊎-elim}
 use mathlib.Core.Path.{_≡_, refl, sym, ap, ap₂, _∙_}
 use Prim.Native.Nat.{ℕ, zero, suc, _+_, _*_, _/_, _%_, _^_, _≤_, _<_}
 use native.Mathlib.Omega.{arith}
-use borrow.Author.Tests.{leb-true, eqb-true, eqb-false}
+use borrow.Author.Tests.{eqb-true, eqb-false}
 use lib.Bits.{bitAnd, bitOr, and-comm, and-zero-l, and-mask, and-high, or-add-and}
-use lib.Dec.{leb, eqb}
-use lib.ListN.{getD}
+use lib.Dec.{eqb}
 use Rattle.seq.specs.Bits.{bit}
-use Rattle.seq.specs.Lists.{all, one}
-use Rattle.seq.proofs.Lists.{either, and-left, and-right, one-le}
+use Rattle.seq.specs.Lists.{one}
+use Rattle.seq.proofs.Lists.{either, one-le}
 use Rattle.filter.specs.Code.Erosion.{colours}
-
-pub binary-at : (l : List ℕ) → all (λ v. leb v 1) l ≡ true → (i : ℕ) → getD l i 0 ≤ 1
-binary-at [] h i = omega arith
-binary-at (x ∷ l) h zero = leb-true x 1 (and-left (leb x 1) (all (λ v. leb v 1) l) h)
-binary-at (x ∷ l) h (suc i) = binary-at l (and-right (leb x 1) (all (λ v. leb v 1) l) h) i
 
 pub each-colour {ℓ} : (P : ℕ → Type ℓ) → P 0 → P 1 → (v : ℕ) → v < 2 → P v
 each-colour P a b zero h = a

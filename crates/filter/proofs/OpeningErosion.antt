@@ -18,21 +18,21 @@ use lib.ListN.{getD}
 use Rattle.seq.specs.Bits.{bit, bitsOf}
 use Rattle.seq.specs.Loops.{Swept}
 use Rattle.seq.specs.Tab.{upTo}
-use Rattle.table.specs.Mask.{down, positions}
+use Rattle.table.specs.Mask.{positionCount, down, positions}
 use Rattle.seq.proofs.Lists.{any-ext}
 use Rattle.seq.proofs.Fronts.{any-snoc, all-snoc}
 use Rattle.seq.proofs.Loops.{bits-set, bits-clear}
-use Rattle.filter.specs.Code.Erosion.{colours, places, margin, shift, span, eroded, spread, openedIn, openedBy, joined, Codes, Coded}
+use Rattle.filter.specs.Code.Erosion.{colours, margin, shift, span, eroded, spread, openedIn, openedBy, joined, Codes, Coded}
 use Rattle.filter.proofs.OpeningCodes.{colours-ext, colours-small, bit-colours, code-colours, and-colours, or-colours}
 
-pub rows-span : (s b : ℕ) → b < places → down b * s ≤ margin * s
+pub rows-span : (s b : ℕ) → b < positionCount → down b * s ≤ margin * s
 rows-span s b h = mul-le-mul-right s (omega arith)
 
-pub shift-span : (s b : ℕ) → b < places → shift s b ≤ span s
+pub shift-span : (s b : ℕ) → b < positionCount → shift s b ≤ span s
 shift-span s b h = omega (arith, rows-span s b h)
 
 -- all positions are looked at
-pub all-positions : (mask b : ℕ) → b ≡ places → bitsOf b mask ≡ positions mask
+pub all-positions : (mask b : ℕ) → b ≡ positionCount → bitsOf b mask ≡ positions mask
 unfolding positions
 all-positions mask b h = rw h
 

@@ -19,7 +19,8 @@ use Rattle.seq.specs.Loops.{Swept}
 use Rattle.seq.proofs.Tests.{lt-or-le}
 use Rattle.filter.specs.Code.Erosion.{colours, margin, stride, span, within, framedIs, Framed}
 use Rattle.operator.specs.Image.{pixel, IsImage}
-use Rattle.filter.proofs.OpeningCodes.{binary-at, colours-ext, pixel-colours}
+use Rattle.image.proofs.PixelsOf.{binary-at}
+use Rattle.filter.proofs.OpeningCodes.{colours-ext, pixel-colours}
 
 pub within-true : (size i : ℕ) → margin ≤ i → i < size + margin → within size i ≡ true
 within-true size i p q = ap₂ _&&_ (le-leb margin i p) (lt-ltb (i - margin) size (omega arith))
@@ -117,7 +118,7 @@ module _ (w h : ℕ) (img : List ℕ) where
       stored : (c : ℕ) → margin ≤ c → c < w + margin → Right (n + margin) c
       stored c a d =
           let g : from + ((n + margin) * stride w + c - to) ≡ n * w + (c - margin) = omega arith in
-          s .inner _ (omega arith) (omega arith) ∙ rw g (pixel-colours (pixel w img n (c - margin)) (binary-at img (b .binary) (n * w + (c - margin)))) ∙ colours-ext _ _ (λ v _. this-row n v c a d)
+          s .inner _ (omega arith) (omega arith) ∙ rw g (pixel-colours (pixel w img n (c - margin)) (binary-at img (n * w + (c - margin)) (b .binary))) ∙ colours-ext _ _ (λ v _. this-row n v c a d)
 
       here : (c : ℕ) → n + margin < stride h → c < stride w → Right (n + margin) c
       here c p q =

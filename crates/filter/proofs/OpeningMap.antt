@@ -23,25 +23,26 @@ use Rattle.seq.proofs.Lists.{bool-ext, any-ext, all-ext, keep-elim}
 use Rattle.seq.proofs.Loops.{sweep-front}
 use Rattle.seq.proofs.Tab.{length-tab, tab-ext, upTo-elim}
 use Rattle.table.specs.declared.Table.{Table}
-use Rattle.table.specs.Mask.{across, down, positions}
+use Rattle.image.specs.Size.{maxSide}
+use Rattle.table.specs.Mask.{positionCount, across, down, positions}
 use Rattle.table.specs.Record.{persistents}
 use Rattle.verdict.specs.Writer.{over}
-use Rattle.filter.specs.Code.Erosion.{maxWidth, maxHeight, Openable, colours, places, margin, stride, shift, span, within, framedIs, Framed, eroded, openedIn, openedBy, Coded}
+use Rattle.filter.specs.Code.Erosion.{Openable, colours, margin, stride, shift, span, within, framedIs, Framed, eroded, openedIn, openedBy, Coded}
 use Rattle.operator.specs.Image.{pixel}
 use Rattle.filter.specs.Code.OpeningMap.{openCode, openMap}
 use Rattle.operator.specs.Pass.{placed, fits, inside, solid, opened}
 use Rattle.filter.proofs.OpeningCodes.{colours-ext, bit-colours}
 
-pub frame-room : {w h : ℕ} {img map : List ℕ} → Openable w h img map → stride w * stride h ≤ stride maxWidth * stride maxHeight
+pub frame-room : {w h : ℕ} {img map : List ℕ} → Openable w h img map → stride w * stride h ≤ stride maxSide * stride maxSide
 frame-room {w} {h} o =
-    let p : stride w ≤ stride maxWidth = omega (arith, o .narrow) in
-    let q : stride h ≤ stride maxHeight = omega (arith, o .low) in
+    let p : stride w ≤ stride maxSide = omega (arith, o .narrow) in
+    let q : stride h ≤ stride maxSide = omega (arith, o .low) in
     mul-le-mul p q
 
--- a position is one of 25
-position-below : (K : ℕ) {b : ℕ} → List·Memᴰ b (positions K) → b < places
+-- a position is below their number
+position-below : (K : ℕ) {b : ℕ} → List·Memᴰ b (positions K) → b < positionCount
 unfolding positions bitsOf
-position-below K m = upTo-elim 25 (keep-elim (bit K) (upTo 25) m .0)
+position-below K m = upTo-elim positionCount (keep-elim (bit K) (upTo positionCount) m .0)
 
 -- along one side: the frame moves every place by the margin, and no place is cut
 side-within : (size i b b' : ℕ) → b ≤ margin → within size (i + margin - b + b') ≡ fits size i b b'
@@ -52,7 +53,7 @@ side-within size i b b' h =
     (λ t. le-leb margin (i + margin - b + b') (omega (arith, leb-true b (i + b') t))))
     (ap (λ (k : ℕ). ltb k size) e)
 
-framed-solid : (w h : ℕ) (img : List ℕ) (v r c b b' : ℕ) → b < places
+framed-solid : (w h : ℕ) (img : List ℕ) (v r c b b' : ℕ) → b < positionCount
     → framedIs w h img v (r + margin - down b + down b') (c + margin - across b + across b')
     ≡ (inside w h r c b b' && eqb (pixel w img (placed r (down b) (down b')) (placed c (across b) (across b'))) v)
 unfolding framedIs inside
@@ -67,7 +68,7 @@ window-place s x x' y y' k m = omega arith
 
 module _ (w h : ℕ) (img l : List ℕ) (f : Framed w h h img l) where
   -- a pixel of a translate that puts b at (r, c)
-  translate-pixel : (v r c b b' : ℕ) → v < 2 → r < h → c < w → b < places → b' < places
+  translate-pixel : (v r c b b' : ℕ) → v < 2 → r < h → c < w → b < positionCount → b' < positionCount
       → bit (getD l (shift (stride w) b' + ((r + margin) * stride w + (c + margin) - shift (stride w) b)) 0) v
       ≡ (inside w h r c b b' && eqb (pixel w img (placed r (down b) (down b')) (placed c (across b) (across b'))) v)
   translate-pixel v r c b b' u p q d d' =

@@ -24,11 +24,11 @@ use Rattle.filter.specs.Code.OpeningMap.{openMap}
 use Rattle.table.proofs.Facts.{accepted-table}
 
 -- the table's ranges, from its count and its element places
-pub ranged-of : (t : Table) {es : List ℕ} {b : Bool} → t .count ≤ 64 → es ≡ t .elements → b ≡ all validMask (take (t .count) es) → b ≡ ranged t
+pub ranged-of : (t : Table) {es : List ℕ} {b : Bool} → t .count ≤ maxElements → es ≡ t .elements → b ≡ all validMask (take (t .count) es) → b ≡ ranged t
 unfolding ranged masks
 ranged-of t l e q = q ∙ simp (le-leb (t .count) maxElements l, e)
 
-pub ranged-count : (t : Table) → ranged t ≡ true → t .count ≤ 64
+pub ranged-count : (t : Table) → ranged t ≡ true → t .count ≤ maxElements
 unfolding ranged
 ranged-count t e = leb-true (t .count) maxElements (and-left (leb (t .count) maxElements) (all validMask (masks t)) e)
 

@@ -19,7 +19,8 @@ use Rattle.seq.proofs.Grid.{cell-below, grid-at, by-cell}
 use Rattle.seq.proofs.Lists.{not-true-false, any-ext, all-ext, count-ext}
 use Rattle.seq.proofs.Tab.{getD-tab, tab-ext, upTo-elim}
 use Rattle.table.specs.declared.Table.{Table}
-use Rattle.table.specs.Mask.{across, down, positions}
+use Rattle.image.proofs.PixelsOf.{binary-at}
+use Rattle.table.specs.Mask.{positionCount, across, down, positions}
 use Rattle.table.specs.Record.{masks, recordVerdict}
 use Rattle.verdict.specs.declared.Verdict.the-variants.{Accepted}
 use Rattle.filter.specs.Applied.{switches, switchedAt, switched}
@@ -32,7 +33,7 @@ use Rattle.operator.specs.Window.{siteRow, siteCol, window, windowAt}
 use Rattle.operator.proofs.Kept.{opened-pixel, opened-kept}
 use Rattle.table.proofs.Masks.{position-elim}
 use Rattle.operator.proofs.Placed.{clamp-below}
-use Rattle.operator.proofs.Window.{window-at, binary-at}
+use Rattle.operator.proofs.Window.{window-at}
 
 -- a code of two truth values of which at most one holds
 code-of : (a b : Bool) (v : ℕ) → v ≤ 1 → (a ≡ true → b ≡ true → ⊥) → eqb (one a + 2 * one b) (v + 1) ≡ cond (eqb v 0) a b
@@ -94,7 +95,7 @@ module _ (t : Table) (w h : ℕ) (img : List ℕ) (m : IsImage w h img) where
         (λ e k. all-ext (λ n. eqb (windowAt (window w h codes r c) n) (v + 1)) (λ n. opened t w h img v (siteRow h r n) (siteCol w c n)) (positions e)
         (λ n q. site n (position-elim e q .0)))
       where
-        site : (n : ℕ) → n < 25 → eqb (windowAt (window w h codes r c) n) (v + 1) ≡ opened t w h img v (siteRow h r n) (siteCol w c n)
+        site : (n : ℕ) → n < positionCount → eqb (windowAt (window w h codes r c) n) (v + 1) ≡ opened t w h img v (siteRow h r n) (siteCol w c n)
         site n q =
             let a = clamp-below h r (down n) i in
             let b = clamp-below w c (across n) j in

@@ -16,6 +16,7 @@ use Rattle.seq.specs.Lists.{all}
 use Rattle.seq.proofs.Members.{all-tab}
 use Rattle.seq.proofs.Tab.{tab-getD}
 use Rattle.image.specs.File.{pixelVerdict}
+use Rattle.image.specs.Size.{maxPixels}
 use Rattle.image.proofs.PixelsOf.{PixelsGood, pixels-good}
 use Rattle.image.proofs.RowBytes.{pixels-few, sides}
 use Rattle.verdict.specs.declared.Refusal.{Refusal}
@@ -54,7 +55,7 @@ checked-image w h px e = let s = sides w h (g .size) in record { wide = s .wide;
         (all-tab (λ v. leb v 1) (λ k. getD px k 0) (length px) (λ k l. le-leb (getD px k 0) 1 (g .small k (rw (g .count) at l))))
 
 -- and small
-pub checked-area : (w h : ℕ) (px : List ℕ) → pixelVerdict w h px ≡ Accepted → w * h ≤ 65536
+pub checked-area : (w h : ℕ) (px : List ℕ) → pixelVerdict w h px ≡ Accepted → w * h ≤ maxPixels
 checked-area w h px e = pixels-few (sides w h (pixels-good w h px e .size))
 
 module _ (w h : ℕ) (px d : List ℕ) where

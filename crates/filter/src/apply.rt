@@ -3,6 +3,8 @@ use crate::Filtered;
 use crate::opening;
 use crate::walk;
 use crate::walk::Tally;
+use image::size::MAX_PIXELS;
+use table::MAX_ELEMENTS;
 use table::Table;
 use verdict::Verdict;
 ghost use mathlib.Core.Bool.{true};
@@ -13,19 +15,12 @@ ghost use Rattle.filter.specs.Applied;
 ghost use Rattle.filter.specs.Applied.{filteredArea, againVerdict, againArea, ranged};
 ghost use Rattle.operator.specs.Image.{IsImage};
 ghost use Rattle.filter.specs.Code.OpeningMap.{openMap};
-ghost use Rattle.filter.specs.Code.Walk.{walked, Tallied};
+ghost use Rattle.filter.specs.Code.Walk.{ranged, walked, Tallied};
+ghost use Rattle.image.specs.Size.{maxSide};
 ghost use Rattle.seq.specs.Lists.{all};
 ghost use Rattle.table.specs.Mask.{validMask};
 ghost use Rattle.table.specs.Record.{masks};
 ghost use Rattle.verdict.specs.Writer.{over};
-
-const MAX_SIDE: usize = 256;
-
-const MAX_PIXELS: usize = MAX_SIDE * MAX_SIDE;
-
-const MAX_ELEMENTS: usize = 64;
-
-const LARGEST_MASK: u32 = 33554431;
 
 // The next image goes to the front of `next`. Refused as the table's check refuses, then by 10, 11, 12 (the pixel bytes) and 13.
 pub fn pass(table: Table, width: usize, height: usize, pixels: &[u8], next: &mut [u8]) -> Filtered
@@ -72,7 +67,7 @@ fn check(table: Table, width: usize, height: usize, pixels: &[u8], area: usize) 
 }
 
 fn filtered(table: Table, width: usize, height: usize, pixels: &[u8], next: &mut [u8]) -> Tally
-    requires { ⌜ (ranged table ≡ true) × IsImage width height (now pixels) × (width ≤ 256) × (height ≤ 256) × (width * height ≤ length (now next)) ⌝ }
+    requires { ⌜ (ranged table ≡ true) × IsImage width height (now pixels) × (width ≤ maxSide) × (height ≤ maxSide) × (width * height ≤ length (now next)) ⌝ }
     ensures { λ r. ⌜ (now (next .exit)
         ≡ over (walked (masks table) width height (now (pixels .entry)) (openMap table width height (now (pixels .entry)))) (now (next .entry)))
         × Tallied (masks table) width height (now (pixels .entry)) (openMap table width height (now (pixels .entry))) (width * height) (r .added)
@@ -119,16 +114,10 @@ fn are_valid(elements: &[u32]) -> bool
 {
     let mut i = 0;
     while i < elements.len() {
-        if !is_valid(elements[i]) {
+        if !table::mask::is_valid(elements[i]) {
             return false;
         }
         i += 1;
     }
     true
-}
-
-fn is_valid(mask: u32) -> bool
-    ensures { λ r. ⌜ r ≡ validMask mask ⌝ }
-{
-    1 <= mask && mask <= LARGEST_MASK
 }

@@ -1,5 +1,7 @@
 // The element test on a window: some element has the wanted value at all its positions.
 use crate::opening;
+use table::mask::LARGEST_MASK;
+use table::mask::POSITIONS;
 ghost use mathlib.Core.Bool.{true};
 ghost use mathlib.Core.Path.{_≡_};
 ghost use Prim.Native.Nat.{ℕ, _≤_, _<_};
@@ -12,15 +14,10 @@ ghost use Rattle.operator.specs.Window.{windowAt};
 ghost use Rattle.seq.specs.Bits.{bit};
 ghost use Rattle.seq.specs.Lists.{any, all, one};
 ghost use Rattle.seq.specs.Tab.{tab};
-ghost use Rattle.table.specs.Mask.{validMask};
+ghost use Rattle.table.specs.Mask.{positionCount, validMask};
 
 // A row's bits stand below the next row's.
 const ROW: u32 = 32;
-
-// The positions of a window are the numbers below.
-pub(crate) const POSITIONS: usize = 25;
-
-const LARGEST_MASK: u32 = 33554431;
 
 // The window becomes the mask of the positions that have the wanted value, and each element is compared with it.
 pub(crate) fn some_matches(elements: &[u32], win: [[u8; 5]; 5], wanted: u8) -> bool
@@ -34,7 +31,7 @@ pub(crate) fn some_matches(elements: &[u32], win: [[u8; 5]; 5], wanted: u8) -> b
     some_within(elements, mask)
 }
 
-// A position that every element has, so that none matches where it has another value than the wanted one; 25 where there is none.
+// A position that every element has, so that none matches where it has another value than the wanted one; the number of positions where there is none.
 pub(crate) fn shared_position(elements: &[u32]) -> usize
     ensures { λ r. ⌜ Shared (now (elements .entry)) r ⌝ }
 {
@@ -77,7 +74,7 @@ fn some_within(elements: &[u32], mask: u32) -> bool
 }
 
 fn mask_of(win: [[u8; 5]; 5], wanted: u8) -> u32
-    ensures { λ r. ⌜ ((n : ℕ) → n < 25 → bit r n ≡ eqb (windowAt win n) wanted) ⌝ }
+    ensures { λ r. ⌜ ((n : ℕ) → n < positionCount → bit r n ≡ eqb (windowAt win n) wanted) ⌝ }
 {
     let low = row_mask(win[0], wanted) + ROW * row_mask(win[1], wanted);
     let middle = row_mask(win[2], wanted);

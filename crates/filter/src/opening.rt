@@ -1,34 +1,30 @@
-// The opening map (01, One pass: which pixels are covered, for each value). specs/Code/Erosion.antt explains the way.
+// The opening map (01, One pass: which pixels are covered, for each value). specs/Erosion.antt explains the way.
+use image::size::MAX_SIDE;
 use table::Table;
+use table::mask::POSITIONS;
 ghost use mathlib.Core.Bool.{true};
 ghost use mathlib.Core.Path.{_≡_};
 ghost use Prim.Native.Nat.{_+_, _-_, _*_, _/_, _%_, _^_, _≤_, _<_};
 ghost use lib.Bits.{bitAnd, bitOr};
 ghost use lib.Dec.{leb};
 ghost use lib.ListN.{length, getD};
-ghost use Rattle.filter.specs.Code.Erosion.{Openable, Framed, Codes, Coded, places, margin, stride, shift, span, eroded, spread, openedIn, joined};
+ghost use Rattle.filter.specs.Code.Erosion.{Openable, Framed, Codes, Coded, margin, stride, shift, span, eroded, spread, openedIn, joined};
 ghost use Rattle.operator.specs.Image.{IsImage};
 ghost use Rattle.filter.specs.Code.OpeningMap.{openMap};
 ghost use Rattle.seq.specs.Bits.{bit};
 ghost use Rattle.seq.specs.Lists.{all};
 ghost use Rattle.seq.specs.Loops.{Swept};
-ghost use Rattle.table.specs.Mask.{positions};
+ghost use Rattle.table.specs.Mask.{positionCount, positions};
 ghost use Rattle.verdict.specs.Writer.{over};
 
-// The largest image: the scratch arrays are made for it.
-const MAX_WIDTH: usize = 256;
-
-const MAX_HEIGHT: usize = 256;
-
 const SIDE: usize = 5;
-
-const POSITIONS: usize = SIDE * SIDE;
 
 const MARGIN: usize = SIDE - 1;
 
 const FRAME: usize = MARGIN + MARGIN;
 
-const AREA: usize = (MAX_WIDTH + FRAME) * (MAX_HEIGHT + FRAME);
+// The scratch arrays are made for the largest image.
+const AREA: usize = (MAX_SIDE + FRAME) * (MAX_SIDE + FRAME);
 
 const NEITHER: u8 = 0;
 
@@ -142,7 +138,7 @@ fn erode(mask: u32, step: usize, reach: usize, framed: &[u8], out: &mut [u8])
 }
 
 pub(crate) fn has(mask: u32, position: usize) -> bool
-    requires { ⌜ position < places ⌝ }
+    requires { ⌜ position < positionCount ⌝ }
     ensures { λ r. ⌜ r ≡ bit mask position ⌝ }
 {
     (mask >> position) % 2 == 1
@@ -150,7 +146,7 @@ pub(crate) fn has(mask: u32, position: usize) -> bool
 
 // How far behind its window's first pixel a position lies.
 fn shift_of(step: usize, position: usize) -> usize
-    requires { ⌜ (position < places) × (span step < 2 ^ 64) ⌝ }
+    requires { ⌜ (position < positionCount) × (span step < 2 ^ 64) ⌝ }
     ensures { λ r. ⌜ (r ≡ shift step position) × (r ≤ span step) ⌝ }
 {
     (position / SIDE) * step + position % SIDE

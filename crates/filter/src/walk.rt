@@ -2,6 +2,7 @@
 use crate::elements;
 use crate::opening;
 use crate::window;
+use table::mask::POSITIONS;
 ghost use mathlib.Core.Bool.{true, false, cond, _&&_};
 ghost use mathlib.Core.Path.{_≡_};
 ghost use Prim.Native.Nat.{_+_, _-_, _*_, _≤_, _<_};
@@ -13,7 +14,7 @@ ghost use Rattle.filter.specs.Code.Walk.{Walkable, Opened, Copied, turns
 ghost use Rattle.operator.specs.Window.{siteRow, siteCol};
 ghost use Rattle.seq.specs.Lists.{all, one};
 ghost use Rattle.seq.specs.Loops.{Swept};
-ghost use Rattle.table.specs.Mask.{validMask};
+ghost use Rattle.table.specs.Mask.{positionCount, validMask};
 ghost use Rattle.verdict.specs.Writer.{over};
 
 const WHITE: u8 = 0;
@@ -162,9 +163,9 @@ fn is_missed(
     wanted: u8,
 ) -> bool
     requires { ⌜ (length (now map) ≡ width * height) × (row < height) × (col < width) ⌝ }
-    ensures { λ r. ⌜ (r ≡ true → (shared < 25) × (eqb (pixel width (now (map .entry)) (siteRow height row shared) (siteCol width col shared)) wanted ≡ false)) ⌝ }
+    ensures { λ r. ⌜ (r ≡ true → (shared < positionCount) × (eqb (pixel width (now (map .entry)) (siteRow height row shared) (siteCol width col shared)) wanted ≡ false)) ⌝ }
 {
-    if elements::POSITIONS <= shared {
+    if POSITIONS <= shared {
         return false;
     }
     window::at(map, width, height, row, col, shared) != wanted

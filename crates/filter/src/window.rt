@@ -5,6 +5,7 @@ ghost use lib.ListN.{length, getD};
 ghost use Rattle.operator.specs.Image.{pixel};
 ghost use Rattle.operator.specs.Window.{clamp, siteRow, siteCol, window};
 ghost use Rattle.seq.specs.Tab.{tab};
+ghost use Rattle.table.specs.Mask.{positionCount};
 
 // How far the window reaches from its centre.
 const REACH: usize = 2;
@@ -40,7 +41,7 @@ pub(crate) fn at(
     col: usize,
     position: usize,
 ) -> u8
-    requires { ⌜ (row < height) × (col < width) × (width * height ≤ length (now values)) × (position < 25) ⌝ }
+    requires { ⌜ (row < height) × (col < width) × (width * height ≤ length (now values)) × (position < positionCount) ⌝ }
     ensures { λ r. ⌜ r ≡ pixel width (now (values .entry)) (siteRow height row position) (siteCol width col position) ⌝ }
 {
     let start = clamped(row + position / SIDE, height) * width;

@@ -11,9 +11,9 @@ use mathlib.Core.Path.{_≡_, refl}
 use Prim.Native.Nat.{ℕ, _+_, _≤_, _<_}
 use native.Mathlib.Nat.{mul-pos}
 use native.Mathlib.Omega.{arith}
-use borrow.Author.Tests.{ltb-false, eqb-false, le-ltb, ne-eqb, le-leb, leb-true}
+use borrow.Author.Tests.{ltb-false, eqb-false, le-ltb, ne-eqb, le-leb}
 use lib.Dec.{ltb, eqb, leb}
-use lib.ListN.{length, getD}
+use lib.ListN.{length}
 use lib.Seq.{length-take-le}
 use Rattle.operator.specs.Image.{IsImage}
 use Rattle.operator.proofs.Operator.{pass-image}
@@ -21,14 +21,13 @@ use Rattle.history.specs.Pass.{nextImage, exceeds, withNext, changedJob,
 use Rattle.history.specs.State.{State, pixels, even, present, image, inconsistent, unsound, soundRule, loadedRule, readyVerdict}
 use Rattle.history.proofs.Areas.{next-job, next-first, next-second, next-changed, next-stable}
 use Rattle.history.proofs.Images.{none-above}
-use Rattle.image.proofs.PixelsOf.{good-pixels}
+use Rattle.image.proofs.PixelsOf.{good-pixels, binary-at}
 use Rattle.image.proofs.RowBytes.{sides}
 use Rattle.image.specs.File.{pixelVerdict}
 use Rattle.image.specs.Size.{badSize}
 use Rattle.history.specs.Sound.{Ready}
 use Rattle.seq.specs.Lists.{any}
 use Rattle.seq.proofs.Lists.{clash, either, any-intro, all-intro, not-true-false}
-use Rattle.seq.proofs.Members.{all-getD}
 use Rattle.seq.proofs.Tests.{or-none-left, or-none-right}
 use Rattle.table.specs.Record.{recordVerdict}
 use Rattle.verdict.specs.declared.Verdict.{Verdict}
@@ -116,7 +115,7 @@ module _ {s : State} (r : Ready s) where
       (record {
         size = r .sized;
         count = ready-image .sized;
-        small = λ i l. leb-true (getD (image s) i 0) 1 (all-getD (λ v. leb v 1) (image s) 0 (ready-image .binary) refl i);
+        small = λ i l. binary-at (image s) i (ready-image .binary);
       })
 
   -- it has a pixel

@@ -1,18 +1,21 @@
 -- The verdict on pixel bytes, from what its parts find, and what accepted pixels are.
 --     pixels-size, pixels-count, pixels-values     the size is refused; the count is; else the values' verdict
 --     PixelsGood, pixels-good, good-pixels         each rule of accepted pixels, and accepted pixels from their rules
+--     binary-at                                    a value of a list of 0 and 1 is at most 1
 -- Assumes nothing.
 use mathlib.Core.Bool.{true, false, not}
 use mathlib.Core.List.{List}
-use mathlib.Core.Path.{_≡_}
+use mathlib.Core.Path.{_≡_, refl}
 use Prim.Native.Nat.{ℕ, _*_, _/_, _≤_, _<_}
-use borrow.Author.Tests.{not-false, eqb-true, eq-eqb, ne-eqb, ltb-false, le-ltb}
-use lib.Dec.{eqb}
+use borrow.Author.Tests.{not-false, leb-true, eqb-true, eq-eqb, ne-eqb, ltb-false, le-ltb}
+use lib.Dec.{leb, eqb}
 use lib.ListN.{length, getD}
 use Rattle.image.specs.Code.Rows.{tooLarge}
 use Rattle.image.specs.File.{pixelVerdict}
 use Rattle.image.specs.Size.{badSize}
+use Rattle.seq.proofs.Members.{all-getD}
 use Rattle.seq.proofs.Tab.{first-none, first-nothing}
+use Rattle.seq.specs.Lists.{all}
 use Rattle.seq.specs.Tab.{first}
 use Rattle.verdict.specs.declared.Verdict.{Verdict}
 use Rattle.verdict.specs.declared.Verdict.the-variants.{Accepted, Refused}
@@ -54,3 +57,6 @@ pub good-pixels : (w h : ℕ) (px : List ℕ) → PixelsGood w h px → pixelVer
 unfolding pixelVerdict
 good-pixels w h px g =
     simp (g .size, eq-eqb _ _ (g .count), first-none (tooLarge px) (w * h) (λ i l. le-ltb 1 (getD px i 0) (g .small i l)))
+
+pub binary-at : (l : List ℕ) (i : ℕ) → all (λ v. leb v 1) l ≡ true → getD l i 0 ≤ 1
+binary-at l i e = leb-true (getD l i 0) 1 (all-getD (λ v. leb v 1) l 0 e refl i)

@@ -1,11 +1,11 @@
 -- Images there and back: the proof of specs/RoundTrip. Assumes nothing.
 use mathlib.Core.Bool.{true}
 use mathlib.Core.List.{List, [], _∷_, _++_}
-use mathlib.Core.Path.{_≡_, refl, ap, _∙_}
+use mathlib.Core.Path.{_≡_, ap, _∙_}
 use Prim.Native.Nat.{ℕ, zero, suc, _+_, _*_, _<_}
 use native.Mathlib.Omega.{arith}
-use borrow.Author.Tests.{leb-true, ltb-true}
-use lib.Dec.{leb, ltb}
+use borrow.Author.Tests.{ltb-true}
+use lib.Dec.{ltb}
 use lib.ListN.{getD}
 use lib.Pow.{areBytes}
 use lib.Seq.{getD-drop}
@@ -18,13 +18,12 @@ use Rattle.image.specs.Size.{rowBytes}
 use Rattle.image.proofs.Facts.{FileGood, file-good, good-file, AcceptedFile, accepted-file}
 use Rattle.image.proofs.HeaderBack.{HeaderRead, header-back, header-kept}
 use Rattle.image.proofs.HeaderOf.{raster-place}
-use Rattle.image.proofs.PixelsOf.{PixelsGood, pixels-good, good-pixels}
+use Rattle.image.proofs.PixelsOf.{PixelsGood, pixels-good, good-pixels, binary-at}
 use Rattle.image.proofs.RasterBack.{rows-clean, rows-back, raster-kept}
 use Rattle.image.proofs.RowBytes.{sides}
 use Rattle.image.proofs.WriteOf.{binary}
 use Rattle.seq.proofs.Grid.{grid}
 use Rattle.seq.proofs.Lists.{and-left, and-right}
-use Rattle.seq.proofs.Members.{all-getD}
 use Rattle.seq.proofs.Tab.{length-tab, first-none, first-nothing}
 
 -- bytes are below 256, and past them stands 0
@@ -73,7 +72,7 @@ checked : (f : List ℕ) → AcceptedFile f → PixelsGood (widthOf f) (heightOf
 checked f a = record {
   size = a .sized;
   count = a .counted;
-  small = λ i l. leb-true (getD (imageOf f) i 0) 1 (all-getD (λ v. leb v 1) (imageOf f) 0 (a .binary) refl i);
+  small = λ i l. binary-at (imageOf f) i (a .binary);
 }
 
 pub image-round-trip : ImageRoundTrip

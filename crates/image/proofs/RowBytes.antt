@@ -1,6 +1,6 @@
 -- The laws of sizes and of the bytes of a row.
 --     row-bytes-fit     they hold the row's pixels, with fewer than eight bits to spare
---     pixels-few, raster-few    an image has at most 65536 pixels, and its raster at most as many bytes
+--     area-few, pixels-few, raster-few    an image has at most maxPixels pixels, and its raster at most as many bytes
 --     sides             what a size that rule 10 lets pass is
 -- Assumes nothing.
 use mathlib.Core.Bool.{true, false, _&&_}
@@ -11,18 +11,21 @@ use native.Mathlib.Omega.{arith}
 use borrow.Author.Tests.{leb-true, not-false}
 use lib.Dec.{leb}
 use Rattle.image.specs.Code.Rows.{Sides}
-use Rattle.image.specs.Size.{maxSide, within, badSize, rowBytes}
+use Rattle.image.specs.Size.{maxSide, maxPixels, within, badSize, rowBytes}
 use Rattle.seq.proofs.Lists.{and-left, and-right}
 
 pub row-bytes-fit : (w : ℕ) → (w ≤ 8 * rowBytes w) × (8 * rowBytes w < w + 8)
 unfolding rowBytes
 row-bytes-fit w = omega arith
 
-pub pixels-few : {w h : ℕ} → Sides w h → w * h ≤ 65536
-pixels-few s = mul-le-mul (s .narrow) (s .short)
+pub area-few : {w h : ℕ} → w ≤ maxSide → h ≤ maxSide → w * h ≤ maxPixels
+area-few a b = mul-le-mul a b
 
-pub raster-few : {w h b : ℕ} → Sides w h → b ≡ rowBytes w → b * h ≤ 65536
-raster-few {w} {h} {b} s e = mul-le-mul {n₂ = 256} {m₂ = 256} (omega (arith, row-bytes-fit w, s .narrow)) (s .short)
+pub pixels-few : {w h : ℕ} → Sides w h → w * h ≤ maxPixels
+pixels-few s = area-few (s .narrow) (s .short)
+
+pub raster-few : {w h b : ℕ} → Sides w h → b ≡ rowBytes w → b * h ≤ maxPixels
+raster-few {w} {h} {b} s e = area-few (omega (arith, row-bytes-fit w, s .narrow)) (s .short)
 
 within-range : (n : ℕ) → within maxSide n ≡ true → (1 ≤ n) × (n ≤ maxSide)
 unfolding within

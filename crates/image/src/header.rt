@@ -18,6 +18,9 @@ const LINE_FEED: u8 = b'\n';
 
 const MAGIC_LENGTH: usize = 3;
 
+// Two numbers, and a byte behind each.
+pub(crate) const MAX_LENGTH: usize = MAGIC_LENGTH + 2 * (number::MAX_DIGITS + 1);
+
 // The sizes that a header states, and where the raster starts.
 pub(crate) enum Header {
     Found {

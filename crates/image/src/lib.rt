@@ -17,6 +17,9 @@ mod raster;
 pub mod size;
 mod unpack;
 
+// The most bytes of an image file.
+pub const MAX_FILE: usize = header::MAX_LENGTH + size::MAX_PIXELS / size::BYTE_PIXELS;
+
 // The size of the image read, or the refusal.
 pub enum ImageRead {
     Size { width: usize, height: usize },

@@ -14,7 +14,7 @@ const RADIX: usize = 10;
 
 const HUNDRED: usize = RADIX * RADIX;
 
-const MAX_DIGITS: usize = 3;
+pub(crate) const MAX_DIGITS: usize = 3;
 
 // A number and the position after the byte that ends it.
 pub(crate) enum Number {

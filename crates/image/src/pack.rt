@@ -7,7 +7,8 @@ ghost use lib.ListN.{length};
 ghost use lib.Seq.{sets};
 ghost use Rattle.image.specs.Code.Rows.{Sides, Binary, pixelIn, packedRow, rasterOf};
 ghost use Rattle.image.specs.File.{packed};
-ghost use Rattle.image.specs.Size.{rowBytes};
+ghost use Rattle.image.specs.Code.Rows.{Sides, Binary, pixelIn, packedRow, rasterOf};
+ghost use Rattle.image.specs.Size.{maxSide, rowBytes};
 ghost use Rattle.seq.specs.Tab.{tab};
 
 // All rows from `start` on; `from` is the place of a row's first pixel, `to` that of its first byte.
@@ -30,7 +31,7 @@ pub(crate) fn image(pixels: &[u8], width: usize, height: usize, out: &mut [u8], 
 
 // One row, byte by byte.
 fn pack_row(pixels: &[u8], from: usize, width: usize, out: &mut [u8], to: usize)
-    requires { ⌜ Binary (now pixels) × (width ≤ 256) × (from + width ≤ length (now pixels)) × (to + rowBytes width ≤ length (now out)) ⌝ }
+    requires { ⌜ Binary (now pixels) × (width ≤ maxSide) × (from + width ≤ length (now pixels)) × (to + rowBytes width ≤ length (now out)) ⌝ }
     ensures { λ _. ⌜ now (out .exit) ≡ sets (now (out .entry)) to (tab (packedRow (now (pixels .entry)) from width) (rowBytes width)) ⌝ }
 {
     let mut col = 0;

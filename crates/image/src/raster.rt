@@ -7,7 +7,8 @@ ghost use Prim.Native.Nat.{_-_, _*_, _^_, _≤_};
 ghost use lib.ListN.{length};
 ghost use Rattle.image.specs.Code.Rows.{Sides};
 ghost use Rattle.image.specs.File.{paddingSet};
-ghost use Rattle.image.specs.Size.{rowBytes};
+ghost use Rattle.image.specs.Code.Rows.{Sides};
+ghost use Rattle.image.specs.Size.{maxSide, rowBytes};
 ghost use Rattle.seq.specs.Tab.{first};
 ghost use Rattle.verdict.specs.Rules.{refuseAt};
 
@@ -35,7 +36,7 @@ pub(crate) fn check_padding(raster: &[u8], width: usize, height: usize) -> Verdi
 
 // The bits of a row's last byte that stand for no pixel.
 fn padding_mask(width: usize) -> u8
-    requires { ⌜ width ≤ 256 ⌝ }
+    requires { ⌜ width ≤ maxSide ⌝ }
     ensures { λ r. ⌜ r ≡ 2 ^ (8 * rowBytes width - width) - 1 ⌝ }
 {
     let unused = size::BYTE_PIXELS * size::row_bytes(width) - width;

@@ -3,7 +3,9 @@ ghost use mathlib.Core.Path.{_≡_};
 ghost use Prim.Native.Nat.{_≤_};
 ghost use Rattle.image.specs.Size.{maxSide, within, badSize, rowBytes};
 
-const MAX_SIDE: usize = 256;
+pub const MAX_SIDE: usize = 256;
+
+pub const MAX_PIXELS: usize = MAX_SIDE * MAX_SIDE;
 
 pub(crate) const BYTE_PIXELS: usize = 8;
 
@@ -24,7 +26,7 @@ fn is_within(n: usize) -> bool
 
 // The bytes of a row in a file.
 pub(crate) fn row_bytes(width: usize) -> usize
-    requires { ⌜ width ≤ 256 ⌝ }
+    requires { ⌜ width ≤ maxSide ⌝ }
     ensures { λ r. ⌜ r ≡ rowBytes width ⌝ }
 {
     (width + (BYTE_PIXELS - 1)) / BYTE_PIXELS

@@ -7,7 +7,8 @@ ghost use lib.ListN.{length};
 ghost use lib.Seq.{sets};
 ghost use Rattle.image.specs.Code.Rows.{Sides, bytePixel, rowPixel};
 ghost use Rattle.image.specs.File.{pixelsOf};
-ghost use Rattle.image.specs.Size.{rowBytes};
+ghost use Rattle.image.specs.Code.Rows.{Sides, bytePixel, rowPixel};
+ghost use Rattle.image.specs.Size.{maxSide, rowBytes};
 ghost use Rattle.seq.specs.Tab.{tab};
 ghost use Rattle.verdict.specs.Writer.{over};
 
@@ -32,7 +33,7 @@ pub(crate) fn image(raster: &[u8], width: usize, height: usize, area: &mut [u8])
 
 // One row, byte by byte.
 fn unpack_row(raster: &[u8], from: usize, width: usize, area: &mut [u8], to: usize)
-    requires { ⌜ (width ≤ 256) × (from + rowBytes width ≤ length (now raster)) × (to + width ≤ length (now area)) ⌝ }
+    requires { ⌜ (width ≤ maxSide) × (from + rowBytes width ≤ length (now raster)) × (to + width ≤ length (now area)) ⌝ }
     ensures { λ _. ⌜ now (area .exit) ≡ sets (now (area .entry)) to (tab (rowPixel (now (raster .entry)) from) width) ⌝ }
 {
     let mut at = from;

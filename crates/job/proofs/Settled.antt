@@ -1,5 +1,4 @@
 -- A pass at stage 1, from the next image and its counts: what the code hands back and leaves is what the definition says.
---     small               an image within the limits has at most 65,536 pixels
 --     Put s next x y      next was put into the area that does not hold the image
 --     counts-small        added and removed are at most the pixels
 --     next-fits           the next image fits both areas
@@ -9,35 +8,26 @@ use mathlib.Core.Bool.{Bool, true, false, cond, _&&_, _||_}
 use mathlib.Core.List.{List}
 use mathlib.Core.Logic.{⊎-elim}
 use mathlib.Core.Path.{_≡_, refl, sym, ap, _∙_}
-use Prim.Native.Nat.{ℕ, _+_, _*_, _≤_}
-use native.Mathlib.Nat.{mul-le-mul}
+use Prim.Native.Nat.{ℕ, _+_, _≤_}
 use native.Mathlib.Omega.{arith}
-use borrow.Author.Tests.{leb-true, not-false}
-use lib.Dec.{leb, ltb, eqb}
+use lib.Dec.{ltb, eqb}
 use lib.ListN.{length, getD}
 use Rattle.operator.specs.Image.{added, removed, differs}
 use Rattle.history.specs.declared.Job.{Job}
 use Rattle.history.specs.declared.Passed.the-variants as passed
 use Rattle.history.specs.Pass.{nextImage, nowAdded, nowRemoved, exceeds, withNext, changedJob, stableJob, changing, passLoaded}
 use Rattle.history.specs.State.{State, pixels, even, image}
-use Rattle.image.specs.Size.{badSize, within, maxSide}
+use Rattle.image.specs.Size.{maxPixels}
+use Rattle.image.proofs.RowBytes.{pixels-few, sides}
 use Rattle.history.specs.Sound.{Ready}
 use Rattle.job.specs.Code.Ready.{Computed, Made}
 use Rattle.job.proofs.Changes.{quiet, changed}
 use Rattle.history.proofs.Ready.{ready-image, ready-next}
 use Rattle.seq.specs.Tab.{upTo}
-use Rattle.seq.proofs.Lists.{either, and-left, and-right, count-le}
+use Rattle.seq.proofs.Lists.{either, count-le}
 use Rattle.seq.proofs.Tab.{length-upTo}
 use Rattle.verdict.specs.Rules.{refusal}
 use Rattle.verdict.specs.Writer.{over}
-
-pub small : (w h : ℕ) → badSize w h ≡ false → w * h ≤ 65536
-unfolding badSize within
-small w h e =
-    let both = not-false (within maxSide w && within maxSide h) e in
-    mul-le-mul
-    (leb-true w 256 (and-right (leb 1 w) _ (and-left (within maxSide w) _ both)))
-    (leb-true h 256 (and-right (leb 1 h) _ (and-right (within maxSide w) _ both)))
 
 abbrev pub Put : State → List ℕ → List ℕ → List ℕ → Type 0
 Put s next x y =
@@ -54,11 +44,11 @@ unfolding removed
 removed-few a b = rw (length-upTo (length a)) at (count-le (λ i. eqb (getD a i 0) 1 && eqb (getD b i 0) 0) (upTo (length a)))
 
 module _ {s : State} (r : Ready s) where
-  pub ready-small : pixels (s .job) ≤ 65536
-  ready-small = small (s .job .width) (s .job .height) (r .sized)
+  pub ready-small : pixels (s .job) ≤ maxPixels
+  ready-small = pixels-few (sides (s .job .width) (s .job .height) (r .sized))
 
 module _ {s : State} (r : Ready s) {next : List ℕ} {a d : ℕ} (k : Computed s next a d) where
-  pub counts-small : (a ≤ 65536) × (d ≤ 65536)
+  pub counts-small : (a ≤ maxPixels) × (d ≤ maxPixels)
   counts-small =
       let p = ready-small r in
       let n = ready-image r .sized in

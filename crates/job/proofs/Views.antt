@@ -20,6 +20,7 @@ use Rattle.history.specs.State.{State, pixels, image, readyVerdict}
 use Rattle.history.specs.View.{viewOf, cover, figuresOf}
 use Rattle.history.specs.Sound.{Ready}
 use Rattle.history.proofs.Ready.{ready-image}
+use Rattle.image.specs.Size.{maxPixels}
 use Rattle.job.proofs.Settled.{ready-small}
 use Rattle.seq.proofs.Lists.{count-le}
 use Rattle.verdict.specs.declared.Refusal.{Refusal}
@@ -57,5 +58,5 @@ black-few : (px : List ℕ) → black px ≤ length px
 unfolding black
 black-few px = count-le (λ v. eqb v 1) px
 
-pub few-black : {s : State} → Ready s → {n : ℕ} → n ≡ black (image s) → n ≤ 65536
+pub few-black : {s : State} → Ready s → {n : ℕ} → n ≡ black (image s) → n ≤ maxPixels
 few-black {s} r e = omega (arith, black-few (image s), ready-image r .sized, ready-small r)

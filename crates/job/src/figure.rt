@@ -4,12 +4,13 @@ ghost use Prim.Native.Nat.{_+_, _≤_, _<_};
 ghost use lib.IntN.{subℕ};
 ghost use Rattle.operator.specs.Image;
 ghost use Rattle.history.specs.View;
+ghost use Rattle.image.specs.Size.{maxPixels};
 
 // Thousandths of the pixels that are black, cut down.
 const WHOLE: usize = 1000;
 
 pub(crate) fn cover(black: usize, pixels: usize) -> usize
-    requires { ⌜ (0 < pixels) × (black ≤ 65536) ⌝ }
+    requires { ⌜ (0 < pixels) × (black ≤ maxPixels) ⌝ }
     ensures { λ r. ⌜ r ≡ View.cover black pixels ⌝ }
 {
     WHOLE * black / pixels
@@ -32,7 +33,7 @@ pub(crate) fn black(bytes: &[u8]) -> usize
 
 // The signed difference of two small counts.
 pub(crate) fn balance(added: usize, removed: usize) -> i64
-    requires { ⌜ added + removed ≤ 65536 ⌝ }
+    requires { ⌜ added + removed ≤ maxPixels ⌝ }
     ensures { λ r. ⌜ r ≡ subℕ added removed ⌝ }
 {
     added as i64 - removed as i64

@@ -261,7 +261,7 @@ pub fn empty() -> Job
 {
     let table = Table {
         count: 0,
-        elements: [0u32; sound::ELEMENTS],
+        elements: [0u32; table::MAX_ELEMENTS],
         persistent: 0,
     };
     Job {

@@ -1,6 +1,7 @@
 // When a job record is unsound with its areas (01: 14), and ready for a call (14, 16).
 use crate::area;
 use history::Job;
+use table::MAX_ELEMENTS;
 use verdict::Refusal;
 use verdict::Verdict;
 ghost use mathlib.Core.Bool.{not};
@@ -17,10 +18,6 @@ pub(crate) const EMPTY: u8 = 0;
 pub(crate) const LOADED: u8 = 1;
 
 pub(crate) const STABLE: u8 = 2;
-
-pub(crate) const MAX_SIDE: usize = 256;
-
-pub(crate) const ELEMENTS: usize = 64;
 
 // What pass, run, view and figures begin with: 14, 16.
 pub(crate) fn ready<'a>(job: Job, first: &'a [u8], second: &'a [u8]) -> Verdict
@@ -100,12 +97,12 @@ fn is_nonzero(job: Job) -> bool
     any_nonzero(elements)
 }
 
-fn any_nonzero(elements: [u32; ELEMENTS]) -> bool
+fn any_nonzero(elements: [u32; MAX_ELEMENTS]) -> bool
     ensures { λ r. ⌜ r ≡ not (all (eqb 0) elements) ⌝ }
 {
     let mut seen: u32 = 0;
     let mut i = 0;
-    while i < ELEMENTS {
+    while i < MAX_ELEMENTS {
         seen = seen | elements[i];
         i += 1;
     }

@@ -5,6 +5,7 @@ use crate::sound;
 use filter::Filtered;
 use history::Job;
 use history::Passed;
+use image::size::MAX_PIXELS;
 ghost use mathlib.Core.Bool.{_||_};
 ghost use mathlib.Core.Path.{_≡_};
 ghost use Prim.Native.Nat.{_+_};
@@ -14,8 +15,6 @@ ghost use Rattle.history.specs.Run.{runOf};
 ghost use Rattle.job.specs.Core.{at};
 ghost use Rattle.history.specs.Sound.{Ready};
 ghost use Rattle.job.specs.Code.Ready.{Computed, Made};
-
-const MAX_PIXELS: usize = sound::MAX_SIDE * sound::MAX_SIDE;
 
 // Passes until one does not answer "changed". A changing pass leaves the record sound, so none is checked again.
 pub(crate) fn repeat(job: Job, first: &mut [u8], second: &mut [u8]) -> Stepped

@@ -14,9 +14,11 @@ use Rattle.seq.specs.Lists.{all, one}
 use Rattle.seq.specs.Tab.{tab}
 use Rattle.seq.proofs.Bits.{bit-half, bit-one, bit-none}
 use Rattle.seq.proofs.Lists.{one-le}
+use Rattle.image.proofs.PixelsOf.{binary-at}
+use Rattle.table.specs.Mask.{positionCount}
 use Rattle.operator.specs.Preview.{fromBits, pattern}
 use Rattle.operator.specs.Window.{siteRow, siteCol, window, windowAt}
-use Rattle.operator.proofs.Window.{window-at, binary-at}
+use Rattle.operator.proofs.Window.{window-at}
 
 -- the lowest bit of b + 2 · x is b
 bit-first : (b : Bool) (x : ℕ) → bit (one b + 2 * x) 0 ≡ b
@@ -38,5 +40,5 @@ unfolding pattern
 pattern-lt w h img r c e =
     omega (arith, bound 6 (lit< tt), bound 7 (lit< tt), bound 8 (lit< tt), bound 11 (lit< tt), bound 12 (lit< tt), bound 13 (lit< tt), bound 16 (lit< tt), bound 17 (lit< tt), bound 18 (lit< tt))
   where
-    bound : (n : ℕ) → n < 25 → windowAt (window w h img r c) n ≤ 1
+    bound : (n : ℕ) → n < positionCount → windowAt (window w h img r c) n ≤ 1
     bound n l = rw (window-at w h img r c n l) (binary-at img (siteRow h r n * w + siteCol w c n) e)

@@ -20,14 +20,15 @@ use Rattle.seq.specs.Tab.{upTo}
 use Rattle.seq.proofs.Bits.{bitsOf-elim}
 use Rattle.seq.proofs.Lists.{and-left, and-right, any-ext, all-ext, all-elim}
 use Rattle.seq.proofs.Tab.{tab-ext, upTo-intro}
-use Rattle.table.specs.Mask.{centre, positions}
+use Rattle.image.proofs.PixelsOf.{binary-at}
+use Rattle.table.specs.Mask.{positionCount, centre, positions}
 use Rattle.table.specs.Record.{masks}
 use Rattle.operator.specs.Image.{pixel, IsImage}
 use Rattle.operator.specs.Plain.{opposed, plainAt, plain}
 use Rattle.operator.specs.Preview.{fromBits, pattern, fiveOrMore, preview, chosen, medianElements, medianTable, Preview}
 use Rattle.operator.specs.Window.{siteRow, siteCol, window, windowAt}
 use Rattle.operator.proofs.Pattern.{bits-tab, pattern-lt}
-use Rattle.operator.proofs.Window.{window-at, binary-at}
+use Rattle.operator.proofs.Window.{window-at}
 
 -- the bit of a pattern that stands for position n, and the position of bit k
 abbrev spot : ℕ → ℕ
@@ -67,9 +68,9 @@ masks-median : masks medianTable ≡ medianElements
 unfolding masks medianTable
 masks-median = take-at medianElements (replicate 8 0) 56 median-length
 
-position-lt : (e : ℕ) {n : ℕ} → List·Memᴰ n (positions e) → n < 25
+position-lt : (e : ℕ) {n : ℕ} → List·Memᴰ n (positions e) → n < positionCount
 unfolding positions
-position-lt e m = bitsOf-elim 25 e m .0
+position-lt e m = bitsOf-elim positionCount e m .0
 
 -- a value that is 0 or 1 is its own test
 own : (v : ℕ) → v ≤ 1 → one (eqb v 1) ≡ v
@@ -77,7 +78,7 @@ own zero h = refl
 own (suc zero) h = refl
 own (suc (suc v)) h = absurd (omega arith)
 
-value-at : (win : List (List ℕ)) → ((n : ℕ) → n < 25 → windowAt win n ≤ 1) → (n : ℕ) → inner n ≡ true → value (pattern win) n ≡ windowAt win n
+value-at : (win : List (List ℕ)) → ((n : ℕ) → n < positionCount → windowAt win n ≤ 1) → (n : ℕ) → inner n ≡ true → value (pattern win) n ≡ windowAt win n
 unfolding pattern
 value-at win h n e =
     ap (λ (p : ℕ). one (bit p (spot n))) (ap fromBits (tab-ext (λ k. windowAt win (place k)) (λ k. one (q k)) 9 (λ k l. sym (own (windowAt win (place k)) (h (place k) (omega arith))))))
@@ -101,10 +102,10 @@ module _ (w h : ℕ) (img : List ℕ) (is : IsImage w h img) (r c : ℕ) (hr : r
   abbrev site : ℕ → ℕ
   site n = pixel w img (siteRow h r n) (siteCol w c n)
 
-  site-at : (n : ℕ) → n < 25 → inner n ≡ true → value (pattern win) n ≡ site n
+  site-at : (n : ℕ) → n < positionCount → inner n ≡ true → value (pattern win) n ≡ site n
   site-at n l e = value-at win binary n e ∙ window-at w h img r c n l
     where
-      binary : (m : ℕ) → m < 25 → windowAt win m ≤ 1
+      binary : (m : ℕ) → m < positionCount → windowAt win m ≤ 1
       binary m k = rw (window-at w h img r c m k) (binary-at img (siteRow h r m * w + siteCol w c m) (is .binary))
 
   -- the pixel itself is position 12

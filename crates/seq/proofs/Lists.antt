@@ -1,4 +1,4 @@
--- The laws of `any`, `all`, `keep`, `count` and `join`. Membership is `List·Memᴰ`.
+-- The laws of `any`, `all`, `keep`, `count`, `sumOf` and `join`. Membership is `List·Memᴰ`.
 --     any-intro, any-elim, any-none, any-mono, any-ext    a witness gives any, and any a witness; none; by elements
 --     all-intro, all-elim, all-mono, all-ext              what holds of each element, both ways; by elements
 --     not-any, not-all                                    a negation moves inside
@@ -7,16 +7,17 @@
 --     count-ext, count-le, count-mono, count-sum          counting: by elements, at most all, and of two tests together
 --     count-some, any-count, count-none                   some passes, none passes
 --     count-append, count-set                             of two lists, and after one store
+--     sumOf-append, sumOf-replicate                       the sum of two lists, and of one number n times
 -- Assumes nothing.
 use mathlib.Core.Bool.{Bool, true, false, cond, not, _&&_, _||_, or-true, true≢false}
 use mathlib.Core.List.{List, [], _∷_, _++_, map, List·Memᴰ, List·Memᴰ·head, List·Memᴰ·tail, List·Memᴰ·not-nil, Memᴰ·append-left, Memᴰ·append-right, List·Memᴰ·append-cases}
 use mathlib.Core.Logic.{_⊎_, inl, inr, ⊎-elim}
 use mathlib.Core.Path.{_≡_, refl, sym, ap, ap₂, _∙_, subst}
-use Prim.Native.Nat.{ℕ, zero, suc, _+_, _≤_, _<_}
-use native.Mathlib.Nat.{not-suc-le-zero, le-of-suc-le-suc}
+use Prim.Native.Nat.{ℕ, zero, suc, _+_, _*_, _≤_, _<_}
+use native.Mathlib.Nat.{not-suc-le-zero, le-of-suc-le-suc, zero-mul, suc-mul, add-comm}
 use native.Mathlib.Omega.{arith}
-use lib.ListN.{length, getD, set}
-use Rattle.seq.specs.Lists.{any, all, keep, one, count, join, same}
+use lib.ListN.{length, getD, set, replicate}
+use Rattle.seq.specs.Lists.{any, all, keep, one, count, sumOf, join, same}
 
 -- a test is not both true and false
 pub clash {ℓ} : {P : Type ℓ} {b : Bool} → b ≡ true → b ≡ false → P
@@ -215,6 +216,14 @@ module _ {ℓ} {A : Type ℓ} where
   count-set p [] i a d h = absurd (not-suc-le-zero h)
   count-set p (x ∷ l) zero a d h = omega arith
   count-set p (x ∷ l) (suc i) a d h = omega (arith, count-set p l i a d (le-of-suc-le-suc h))
+
+pub sumOf-append : (l k : List ℕ) → sumOf (l ++ k) ≡ sumOf l + sumOf k
+sumOf-append [] k = omega arith
+sumOf-append (x ∷ l) k = omega (arith, sumOf-append l k)
+
+pub sumOf-replicate : (n a : ℕ) → sumOf (replicate n a) ≡ n * a
+sumOf-replicate zero a = sym (zero-mul a)
+sumOf-replicate (suc n) a = ap (λ (m : ℕ). a + m) (sumOf-replicate n a) ∙ add-comm a (n * a) ∙ sym (suc-mul n a)
 
 module _ {ℓ κ} {A : Type ℓ} {B : Type κ} (f : A → B) where
   pub map-intro : {a : A} {l : List A} → List·Memᴰ a l → List·Memᴰ (f a) (map f l)

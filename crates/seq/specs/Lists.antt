@@ -4,6 +4,7 @@
 --     keep p l    the elements of l that pass p, in their order
 --     one b       1 for true, 0 for false
 --     count p l   how many elements of l pass p
+--     sumOf l     the sum of a list of numbers
 --     join ls     the lists of ls, one after the other
 --     same a b    the two truth values are equal
 --     isSome o    o has a value
@@ -34,6 +35,10 @@ one false = 0
 abbrev pub count {ℓ} : {A : Type ℓ} → (A → Bool) → List A → ℕ
 count p [] = 0
 count p (a ∷ l) = one (p a) + count p l
+
+abbrev pub sumOf : List ℕ → ℕ
+sumOf [] = 0
+sumOf (a ∷ l) = a + sumOf l
 
 abbrev pub join {ℓ} : {A : Type ℓ} → List (List A) → List A
 join [] = []

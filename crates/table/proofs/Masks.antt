@@ -1,5 +1,5 @@
 -- The positions of masks.
---     position-intro, position-elim     the positions of a mask are its bits below 25
+--     position-intro, position-elim     the positions of a mask are its bits below their number
 --     some-bit, valid-position          a number from 1 below 2 ^ k has a bit below k, so a valid mask has a position
 --     meets-shared                      masks that meet share a position
 --     sum-tests, sum-below, sum-down, sum-across     the position number of an offset sum that lies in the window
@@ -20,16 +20,16 @@ use Rattle.seq.proofs.Lists.{and-left, and-right, any-elim}
 use Rattle.seq.proofs.Members.{not-some}
 use Rattle.seq.proofs.Tab.{first-nothing}
 use Rattle.seq.proofs.Tests.{between, lt-or-le}
-use Rattle.table.specs.Mask.{across, down, positions, validMask, meets, sumInside, sum, partner, unpartnered, persistentFor}
+use Rattle.table.specs.Mask.{positionCount, across, down, positions, validMask, meets, sumInside, sum, partner, unpartnered, persistentFor}
 use Rattle.table.proofs.Positions.{mask-least, mask-lt}
 
-pub position-intro : (m : ℕ) {n : ℕ} → n < 25 → bit m n ≡ true → List·Memᴰ n (positions m)
+pub position-intro : (m : ℕ) {n : ℕ} → n < positionCount → bit m n ≡ true → List·Memᴰ n (positions m)
 unfolding positions
-position-intro m l h = bitsOf-intro 25 m l h
+position-intro m l h = bitsOf-intro positionCount m l h
 
-pub position-elim : (m : ℕ) {n : ℕ} → List·Memᴰ n (positions m) → (n < 25) × (bit m n ≡ true)
+pub position-elim : (m : ℕ) {n : ℕ} → List·Memᴰ n (positions m) → (n < positionCount) × (bit m n ≡ true)
 unfolding positions
-position-elim m k = bitsOf-elim 25 m k
+position-elim m k = bitsOf-elim positionCount m k
 
 -- the highest bit is k where the number is 2 ^ k or more, and lower where it is less
 some-bit : (k m : ℕ) → 1 ≤ m → m < 2 ^ k → (n : ℕ) × (n < k) × (bit m n ≡ true)
@@ -46,7 +46,7 @@ some-bit (suc k) m l h = ⊎-elim (λ e. lower (some-bit k m l e)) highest (lt-o
 
 pub valid-position : (m : ℕ) → validMask m ≡ true → (n : ℕ) × List·Memᴰ n (positions m)
 valid-position m h =
-    let (n, l, b) = some-bit 25 m (mask-least m h) (mask-lt m h) in
+    let (n, l, b) = some-bit positionCount m (mask-least m h) (mask-lt m h) in
     (n, position-intro m l b)
 
 pub meets-shared : (e f : ℕ) → meets e f ≡ true → (n : ℕ) × List·Memᴰ n (positions e) × List·Memᴰ n (positions f)
@@ -63,7 +63,7 @@ module _ (b a : ℕ) (h : sumInside b a ≡ true) where
       let x = leb 2 (across b + across a) && leb (across b + across a) 6 in
       (between 2 (across b + across a) 6 (and-left x _ h), between 2 (down b + down a) 6 (and-right x _ h))
 
-  sum-below : sum b a < 25
+  sum-below : sum b a < positionCount
   unfolding sum
   sum-below = omega (arith, sum-tests)
 
@@ -80,7 +80,7 @@ pub persistent-partner : (K e b : ℕ) → persistentFor K e ≡ true → List·
 unfolding persistentFor unpartnered partner
 persistent-partner K e b h m =
     let (l, i) = position-elim K m in
-    let p = first-nothing (λ n. bit K n && not (partner K e n)) 25 (not-some (unpartnered K e) (not-true _ h)) b l in
+    let p = first-nothing (λ n. bit K n && not (partner K e n)) positionCount (not-some (unpartnered K e) (not-true _ h)) b l in
     let (a, n, s) = any-elim _ (positions e) (not-false (partner K e b) (rw i at p)) in
     let inside = and-left (sumInside b a) _ s in
     (a, n, inside, position-intro K (sum-below b a inside) (and-right (sumInside b a) _ s))

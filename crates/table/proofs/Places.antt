@@ -19,8 +19,7 @@ use Rattle.seq.proofs.Tests.{or-none-left}
 use Rattle.table.specs.declared.Table.{Table}
 use Rattle.table.specs.declared.mask.Search.{Search}
 use Rattle.table.specs.declared.mask.Search.the-variants.{Found, Nothing}
-use Rattle.table.specs.Code.Search.{found, badAfter, lowestBad}
-use Rattle.table.specs.Mask.{centre, validMask, unpartnered, persistentFor}
+use Rattle.table.specs.Mask.{positionCount, centre, validMask, unpartnered, persistentFor}
 use Rattle.table.specs.Record.{maxElements, element, persistents, notRising, badElement, badPlace, missing}
 use Rattle.table.proofs.Positions.{mask-least, mask-lt}
 
@@ -51,17 +50,17 @@ pub good-valid : (t : Table) (k : ℕ) → badElement t k ≡ false → validMas
 unfolding badElement
 good-valid t k e = not-false (validMask (element t k)) (or-none-left (not (validMask (element t k))) _ e)
 
-pub place-lt : (t : Table) → lowestBad t ≡ none → (k : ℕ) → k < maxElements → element t k < 2 ^ 25
+pub place-lt : (t : Table) → lowestBad t ≡ none → (k : ℕ) → k < maxElements → element t k < 2 ^ positionCount
 unfolding lowestBad
 place-lt t h k l = step (ltb k (t .count)) refl
   where
     good : badPlace t k ≡ false
     good = first-nothing (badPlace t) maxElements h k l
 
-    zero-lt : element t k ≡ 0 → element t k < 2 ^ 25
+    zero-lt : element t k ≡ 0 → element t k < 2 ^ positionCount
     zero-lt e = omega arith
 
-    step : (b : Bool) → ltb k (t .count) ≡ b → element t k < 2 ^ 25
+    step : (b : Bool) → ltb k (t .count) ≡ b → element t k < 2 ^ positionCount
     step true e = mask-lt (element t k) (good-valid t k (sym (bad-within t k (ltb-true k (t .count) e)) ∙ good))
     step false e =
         zero-lt (eqb-true (element t k) 0 (not-false (eqb (element t k) 0) (sym (bad-past t k (ltb-false k (t .count) e)) ∙ good)))

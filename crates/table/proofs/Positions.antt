@@ -24,25 +24,25 @@ use Rattle.seq.proofs.Bits.{bit-and, bit-shr, bit-shl, bit-low, bit-above, any-
 use Rattle.seq.proofs.Lists.{all-elim, same-true}
 use Rattle.seq.proofs.Tab.{upTo-intro}
 use Rattle.seq.proofs.Tests.{between, outside}
-use Rattle.table.specs.Mask.{across, down, largestMask, positions, validMask, meets, sumInside, sum, partner}
+use Rattle.table.specs.Mask.{positionCount, across, down, largestMask, positions, validMask, meets, sumInside, sum, partner}
 
 pub mask-least : (m : ℕ) → validMask m ≡ true → 1 ≤ m
 unfolding validMask
 mask-least m e = between 1 m largestMask e .0
 
-pub mask-lt : (m : ℕ) → validMask m ≡ true → m < 2 ^ 25
+pub mask-lt : (m : ℕ) → validMask m ≡ true → m < 2 ^ positionCount
 unfolding validMask
 mask-lt m e = let w = between 1 m largestMask e .1 in omega arith
 
-pub meets-and : (e f : ℕ) → e < 2 ^ 25 → meets e f ≡ not (eqb (bitAnd e f) 0)
+pub meets-and : (e f : ℕ) → e < 2 ^ positionCount → meets e f ≡ not (eqb (bitAnd e f) 0)
 unfolding meets positions
-meets-and e f h = any-and (bit f) 25 e f h (λ n l. refl)
+meets-and e f h = any-and (bit f) positionCount e f h (λ n l. refl)
 
 -- the same of a test for no position in common
-pub apart-masks : (e f : ℕ) → e < 2 ^ 25 → bitAnd e f ≡ 0 → not (meets e f) ≡ true
+pub apart-masks : (e f : ℕ) → e < 2 ^ positionCount → bitAnd e f ≡ 0 → not (meets e f) ≡ true
 apart-masks e f h z = ap not (meets-and e f h ∙ ap not (eq-eqb (bitAnd e f) 0 z))
 
-pub meeting-masks : (e f : ℕ) → e < 2 ^ 25 → (bitAnd e f ≡ 0 → ⊥) → not (meets e f) ≡ false
+pub meeting-masks : (e f : ℕ) → e < 2 ^ positionCount → (bitAnd e f ≡ 0 → ⊥) → not (meets e f) ≡ false
 meeting-masks e f h z = ap not (meets-and e f h ∙ ap not (ne-eqb (bitAnd e f) 0 z))
 
 -- the lowest bit of each of the five rows
@@ -58,17 +58,17 @@ column x a = leb 2 (x + across a) && leb (x + across a) 6
 right : ℕ → ℕ → Bool
 right x a = same (bit (getD columns x 0) a) (column x a)
 
-all-right : all (λ x. all (right x) (upTo 25)) (upTo 5) ≡ true
+all-right : all (λ x. all (right x) (upTo positionCount)) (upTo 5) ≡ true
 unfolding right bit upTo
 all-right = refl
 
-columns-bit : (x a : ℕ) → x < 5 → a < 25 → bit (getD columns x 0) a ≡ column x a
+columns-bit : (x a : ℕ) → x < 5 → a < positionCount → bit (getD columns x 0) a ≡ column x a
 unfolding right
 columns-bit x a hx ha =
     same-true (bit (getD columns x 0) a) (column x a)
-    (all-elim (right x) (all-elim (λ y. all (right y) (upTo 25)) all-right (upTo-intro hx)) (upTo-intro ha))
+    (all-elim (right x) (all-elim (λ y. all (right y) (upTo positionCount)) all-right (upTo-intro hx)) (upTo-intro ha))
 
-module _ (K b a : ℕ) (hK : K < 2 ^ 25) (hb : b < 25) (ha : a < 25) where
+module _ (K b a : ℕ) (hK : K < 2 ^ positionCount) (hb : b < positionCount) (ha : a < positionCount) where
   abbrev row : Bool
   row = leb 2 (down b + down a) && leb (down b + down a) 6
 
@@ -79,7 +79,7 @@ module _ (K b a : ℕ) (hK : K < 2 ^ 25) (hb : b < 25) (ha : a < 25) where
   inside h false e = ⊎-elim (λ (m : down b + down a < 2). bit-low K 12 (b + a) (omega arith)) above (outside 2 (down b + down a) 6 e)
     where
       above : 6 < down b + down a → bit (K * 2 ^ 12) (b + a) ≡ false
-      above m = ap (bit (K * 2 ^ 12)) (omega arith) ∙ bit-shl K 12 (b + a - 12) ∙ bit-above K 25 (b + a - 12) hK (omega arith)
+      above m = ap (bit (K * 2 ^ 12)) (omega arith) ∙ bit-shl K 12 (b + a - 12) ∙ bit-above K positionCount (b + a - 12) hK (omega arith)
 
   moved : (t : Bool) → column (across b) a ≡ t → (bit (K * 2 ^ 12) (b + a) && t) ≡ ((t && row) && bit K (sum b a))
   moved true e = and-true (bit (K * 2 ^ 12) (b + a)) ∙ inside (between 2 (across b + across a) 6 e) row refl
@@ -94,7 +94,7 @@ module _ (K b a : ℕ) (hK : K < 2 ^ 25) (hb : b < 25) (ha : a < 25) where
       (columns-bit (across b) a (omega arith) ha)
       ∙ moved (column (across b) a) refl
 
-pub partner-and : (K e b m : ℕ) → e < 2 ^ 25 → ((a : ℕ) → a < 25 → bit m a ≡ (sumInside b a && bit K (sum b a)))
+pub partner-and : (K e b m : ℕ) → e < 2 ^ positionCount → ((a : ℕ) → a < positionCount → bit m a ≡ (sumInside b a && bit K (sum b a)))
     → partner K e b ≡ not (eqb (bitAnd e m) 0)
 unfolding partner positions
-partner-and K e b m he h = any-and (λ a. sumInside b a && bit K (sum b a)) 25 e m he h
+partner-and K e b m he h = any-and (λ a. sumInside b a && bit K (sum b a)) positionCount e m he h

@@ -1,9 +1,11 @@
 -- Masks of the 25 positions of a 5 × 5 window (01, The table).
+--     positionCount       the positions are the numbers below it
+--     largestMask         the mask of all positions
 --     across n, down n    dx + 2 and dy + 2 of position n
 --     centre              the position of the offset (0, 0)
 --     largestMask         all 25 positions
 --     positions m         the positions of the mask m, rising
---     validMask m         1 to 33,554,431
+--     validMask m         1 to the largest mask
 --     meets e f           the masks share a position
 --     sumInside b a       the offset sum b + a lies in the window; sum b a: its position
 --     partner K e b       some offset a of e has b + a in K
@@ -19,6 +21,12 @@ use Rattle.seq.specs.Bits.{bit, bitsOf}
 use Rattle.seq.specs.Lists.{any, isSome}
 use Rattle.seq.specs.Tab.{first}
 
+abbrev pub positionCount : ℕ
+positionCount = 25
+
+abbrev pub largestMask : ℕ
+largestMask = 33554431
+
 abbrev pub across : ℕ → ℕ
 across n = n % 5
 
@@ -28,11 +36,8 @@ down n = n / 5
 abbrev pub centre : ℕ
 centre = 12
 
-abbrev pub largestMask : ℕ
-largestMask = 33554431
-
 unfoldable pub positions : ℕ → List ℕ
-positions m = bitsOf 25 m
+positions m = bitsOf positionCount m
 
 unfoldable pub validMask : ℕ → Bool
 validMask m = leb 1 m && leb m largestMask
@@ -50,7 +55,7 @@ unfoldable pub partner : ℕ → ℕ → ℕ → Bool
 partner K e b = any (λ a. sumInside b a && bit K (sum b a)) (positions e)
 
 unfoldable pub unpartnered : ℕ → ℕ → Option ℕ
-unpartnered K e = first (λ b. bit K b && not (partner K e b)) 25
+unpartnered K e = first (λ b. bit K b && not (partner K e b)) positionCount
 
 unfoldable pub persistentFor : ℕ → ℕ → Bool
 persistentFor K e = not (isSome (unpartnered K e))

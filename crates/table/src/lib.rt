@@ -1,5 +1,5 @@
 // A filter table: the record, its check, and the table file (01, The table).
-mod mask;
+pub mod mask;
 mod number;
 mod reading;
 mod record;
@@ -14,11 +14,17 @@ ghost use lib.ListN.{length};
 ghost use Rattle.table.specs.File.{readTable, writtenTable, tableOutput};
 ghost use Rattle.table.specs.Record.{recordVerdict};
 
+// The most elements of a table, and the element places of a record.
+pub const MAX_ELEMENTS: usize = 64;
+
+// The most bytes of a table file: a count takes one, a mask up to four.
+pub const MAX_FILE: usize = 1 + (MAX_ELEMENTS + 1) * number::MAX_GROUPS;
+
 // The structuring elements and the persistent element (01's keeper), as masks of positions. Element places past the count are zero.
 #[repr(C)]
 pub struct Table {
     pub count: usize,
-    pub elements: [u32; 64],
+    pub elements: [u32; MAX_ELEMENTS],
     pub persistent: u32,
 }
 

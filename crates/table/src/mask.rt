@@ -9,8 +9,8 @@ ghost use mathlib.Core.Bool.{not, _&&_};
 ghost use mathlib.Core.Path.{_≡_};
 ghost use Prim.Native.Nat.{ℕ, _<_, _^_};
 ghost use Rattle.seq.specs.Bits.{bit};
+ghost use Rattle.table.specs.Mask.{positionCount, validMask, sumInside, sum, partner, unpartnered};
 ghost use Rattle.table.specs.Code.Search.{found, badAfter};
-ghost use Rattle.table.specs.Mask.{validMask, sumInside, sum, partner, unpartnered};
 
 // What a search answers: the lowest that it looked for.
 pub(crate) enum Search {
@@ -20,11 +20,13 @@ pub(crate) enum Search {
 
 const SIDE: usize = 5;
 
-const POSITIONS: usize = 25;
+// The positions are the numbers below this one.
+pub const POSITIONS: usize = 25;
 
 const CENTRE: usize = 12;
 
-const LARGEST: u32 = 33554431;
+// The mask of all positions.
+pub const LARGEST_MASK: u32 = 33554431;
 
 // The lowest bit of each of the five rows.
 const EACH_ROW: u64 = 1082401;
@@ -38,10 +40,11 @@ const COLUMNS: [u64; 5] = [
     0b00111 * EACH_ROW,
 ];
 
-pub(crate) fn is_valid(mask: u32) -> bool
+// A mask that has a position, and no bit that is none.
+pub fn is_valid(mask: u32) -> bool
     ensures { λ r. ⌜ r ≡ validMask mask ⌝ }
 {
-    1 <= mask && mask <= LARGEST
+    1 <= mask && mask <= LARGEST_MASK
 }
 
 // Rule 4 on an element, after the element before it (0 where there is none).
@@ -59,7 +62,7 @@ pub(crate) fn is_bad_after(before: u32, element: u32) -> bool
 
 // The lowest position of the persistent element that has no partner in the element.
 pub(crate) fn lowest_unpartnered(persistent: u32, element: u32) -> Search
-    requires { ⌜ (persistent < 2 ^ 25) × (element < 2 ^ 25) ⌝ }
+    requires { ⌜ (persistent < 2 ^ positionCount) × (element < 2 ^ positionCount) ⌝ }
     ensures { λ r. ⌜ found r ≡ unpartnered persistent element ⌝ }
 {
     let mut b = 0;
@@ -73,7 +76,7 @@ pub(crate) fn lowest_unpartnered(persistent: u32, element: u32) -> Search
 }
 
 fn lacks_partner(persistent: u32, element: u32, b: usize) -> bool
-    requires { ⌜ (persistent < 2 ^ 25) × (element < 2 ^ 25) × (b < 25) ⌝ }
+    requires { ⌜ (persistent < 2 ^ positionCount) × (element < 2 ^ positionCount) × (b < positionCount) ⌝ }
     ensures { λ r. ⌜ r ≡ (bit persistent b && not (partner persistent element b)) ⌝ }
 {
     (persistent >> b) % 2 == 1 && (element as u64) & partners(persistent, b) == 0
@@ -81,8 +84,8 @@ fn lacks_partner(persistent: u32, element: u32, b: usize) -> bool
 
 // The offsets a with b + a in the persistent element: all of it moved by -b, without what would leave the window at a side.
 fn partners(persistent: u32, b: usize) -> u64
-    requires { ⌜ (persistent < 2 ^ 25) × (b < 25) ⌝ }
-    ensures { λ r. ⌜ ((a : ℕ) → a < 25 → bit r a ≡ (sumInside b a && bit persistent (sum b a))) ⌝ }
+    requires { ⌜ (persistent < 2 ^ positionCount) × (b < positionCount) ⌝ }
+    ensures { λ r. ⌜ ((a : ℕ) → a < positionCount → bit r a ≡ (sumInside b a && bit persistent (sum b a))) ⌝ }
 {
     (((persistent as u64) << CENTRE) >> b) & COLUMNS[b % SIDE]
 }

@@ -19,7 +19,7 @@ pub struct Reader<'a> {
     pub at: usize,
 }
 
-const MAX_GROUPS: usize = 4;
+pub(crate) const MAX_GROUPS: usize = 4;
 
 // Values of a group; as a byte, bit 7.
 const GROUP: u32 = 128;

@@ -1,4 +1,5 @@
 // The table file, read number by number: each by the rules 1 and 2 and its range rule, then 8, 5 and 7 (01, Refused because of the input).
+use crate::MAX_ELEMENTS;
 use crate::Table;
 use crate::TableRead;
 use crate::mask;
@@ -12,14 +13,16 @@ ghost use lib.ListN.{drop};
 ghost use Rattle.table.specs.Code.Reading.{CountRead, ElementsRead, LastRead, behindRules};
 ghost use Rattle.table.specs.Code.Search.{InRange};
 ghost use Rattle.table.specs.File.{rest, number, tableOf, readAs, readTable};
-ghost use Rattle.table.specs.Record.{zeroTable, meetRule, persistRule};
+ghost use Rattle.table.specs.Code.Reading.{CountRead, ElementsRead, LastRead, behindRules};
+ghost use Rattle.table.specs.Record.{maxElements, zeroTable, meetRule, persistRule};
+ghost use Rattle.table.specs.Code.Search.{InRange};
 ghost use Rattle.verdict.specs.Rules.{refusal, orElse, judge};
 ghost use Rattle.verdict.specs.declared.Verdict.the-variants as the-verdict;
 
 // The elements of a file, and the position past them where they are accepted.
 struct Elements {
     verdict: Verdict,
-    elements: [u32; 64],
+    elements: [u32; MAX_ELEMENTS],
     at: usize,
 }
 
@@ -31,7 +34,7 @@ pub(crate) fn refused(number: u32, place: usize) -> TableRead
         verdict: verdict::refused(number, place),
         table: Table {
             count: 0,
-            elements: [0; 64],
+            elements: [0; MAX_ELEMENTS],
             persistent: 0,
         },
     }
@@ -56,10 +59,10 @@ pub(crate) fn read_counted(file: &[u8], count: usize, at: usize) -> TableRead
 }
 
 fn read_elements(file: &[u8], count: usize, at: usize) -> Elements
-    requires { ⌜ (count ≡ number (now file) 0) × (count ≤ 64) × (drop at (now file) ≡ rest (now file) 1) ⌝ }
+    requires { ⌜ (count ≡ number (now file) 0) × (count ≤ maxElements) × (drop at (now file) ≡ rest (now file) 1) ⌝ }
     ensures { λ r. ⌜ ElementsRead (now (file .entry)) (r .verdict) (r .elements) (r .at) ⌝ }
 {
-    let mut elements = [0u32; 64];
+    let mut elements = [0u32; MAX_ELEMENTS];
     let mut before = 0;
     let mut next = at;
     let mut k = 0;
@@ -95,7 +98,7 @@ fn read_elements(file: &[u8], count: usize, at: usize) -> Elements
 }
 
 // The file behind its elements.
-fn read_persistent(file: &[u8], count: usize, elements: [u32; 64], at: usize) -> TableRead
+fn read_persistent(file: &[u8], count: usize, elements: [u32; MAX_ELEMENTS], at: usize) -> TableRead
     requires { ⌜ LastRead (now file) count elements at ⌝ }
     ensures { λ r. ⌜ r ≡ readAs (judge (behindRules (now (file .entry)))) (tableOf (now (file .entry))) ⌝ }
 {

@@ -1,4 +1,5 @@
 // The rules on a table record.
+use crate::MAX_ELEMENTS;
 use crate::Table;
 use crate::mask;
 use crate::mask::Search;
@@ -8,11 +9,10 @@ ghost use Prim.Native.Nat.{_<_, _^_};
 ghost use lib.ListN.{getD};
 ghost use Rattle.seq.specs.Lists.{isSome};
 ghost use Rattle.seq.specs.Tab.{first};
+ghost use Rattle.table.specs.Mask.{positionCount};
+ghost use Rattle.table.specs.Record.{maxElements, badPlace, disjointFrom, missing, meetRule, persistRule};
 ghost use Rattle.table.specs.Code.Search.{found, badNumber, lowestBad, InRange};
-ghost use Rattle.table.specs.Record.{badPlace, disjointFrom, missing, meetRule, persistRule};
 ghost use Rattle.verdict.specs.Rules.{orElse};
-
-const MAX_ELEMENTS: usize = 64;
 
 // Rule 3.
 pub(crate) fn is_bad_count(count: usize) -> bool
@@ -36,7 +36,7 @@ pub(crate) fn first_bad_place(table: Table) -> Search
 }
 
 fn is_bad_place(table: Table, k: usize) -> bool
-    requires { ⌜ k < 64 ⌝ }
+    requires { ⌜ k < maxElements ⌝ }
     ensures { λ r. ⌜ r ≡ badPlace table k ⌝ }
 {
     let element = table.elements[k];
@@ -80,7 +80,7 @@ fn first_disjoint(table: Table) -> Search
 
 // The lowest earlier element that shares no position with element k.
 fn disjoint_from(table: Table, k: usize) -> Search
-    requires { ⌜ (k < 64) × (getD (table .elements) k 0 < 2 ^ 25) ⌝ }
+    requires { ⌜ (k < maxElements) × (getD (table .elements) k 0 < 2 ^ positionCount) ⌝ }
     ensures { λ r. ⌜ found r ≡ disjointFrom table k ⌝ }
 {
     let element = table.elements[k];

@@ -5,13 +5,13 @@ use verdict::Refusal;
 use verdict::Written;
 ghost use mathlib.Core.List.{map};
 ghost use mathlib.Core.Path.{_≡_};
-ghost use Prim.Native.Nat.{_+_, _≤_};
+ghost use Prim.Native.Nat.{_+_, _*_, _≤_};
 ghost use lib.ListN.{length};
 ghost use lib.Seq.{sets};
 ghost use Rattle.seq.specs.Lists.{join};
 ghost use Rattle.table.specs.File.{tableBytes, writtenTable, tableOutput};
 ghost use Rattle.table.specs.Number.{numberBytes};
-ghost use Rattle.table.specs.Record.{masks, recordVerdict};
+ghost use Rattle.table.specs.Record.{maxElements, masks, recordVerdict};
 ghost use Rattle.verdict.specs.declared.Verdict.the-variants.{Accepted};
 ghost use Rattle.verdict.specs.Writer.{over};
 
@@ -32,7 +32,7 @@ pub(crate) fn write_checked(table: Table, out: &mut [u8]) -> Written
 }
 
 fn file_length(table: Table) -> usize
-    requires { ⌜ table .count ≤ 64 ⌝ }
+    requires { ⌜ table .count ≤ maxElements ⌝ }
     ensures { λ r. ⌜ r ≡ length (tableBytes table) ⌝ }
 {
     let count = number::group_count(table.count as u32);
@@ -40,8 +40,8 @@ fn file_length(table: Table) -> usize
 }
 
 fn elements_length(table: Table) -> usize
-    requires { ⌜ table .count ≤ 64 ⌝ }
-    ensures { λ r. ⌜ (r ≡ length (join (map numberBytes (masks table)))) × (r ≤ 256) ⌝ }
+    requires { ⌜ table .count ≤ maxElements ⌝ }
+    ensures { λ r. ⌜ (r ≡ length (join (map numberBytes (masks table)))) × (r ≤ 4 * maxElements) ⌝ }
 {
     let mut total = 0;
     let mut k = 0;
@@ -53,7 +53,7 @@ fn elements_length(table: Table) -> usize
 }
 
 fn put_table(table: Table, out: &mut [u8])
-    requires { ⌜ (table .count ≤ 64) × (length (tableBytes table) ≤ length (now out)) ⌝ }
+    requires { ⌜ (table .count ≤ maxElements) × (length (tableBytes table) ≤ length (now out)) ⌝ }
     ensures { λ _. ⌜ now (out .exit) ≡ over (tableBytes table) (now (out .entry)) ⌝ }
 {
     let elements_at = number::put_at(out, 0, table.count as u32);
@@ -62,7 +62,7 @@ fn put_table(table: Table, out: &mut [u8])
 }
 
 fn put_elements(table: Table, out: &mut [u8], at: usize) -> usize
-    requires { ⌜ (table .count ≤ 64) × (at + length (join (map numberBytes (masks table))) ≤ length (now out)) ⌝ }
+    requires { ⌜ (table .count ≤ maxElements) × (at + length (join (map numberBytes (masks table))) ≤ length (now out)) ⌝ }
     ensures { λ r. ⌜ (r ≡ at + length (join (map numberBytes (masks table))))
         × (now (out .exit) ≡ sets (now (out .entry)) at (join (map numberBytes (masks table)))) ⌝ }
 {

@@ -10,10 +10,10 @@ use lib.Dec.{eqb}
 use Rattle.operator.specs.Window.{windowAt}
 use Rattle.seq.specs.Bits.{bit}
 use Rattle.seq.specs.Lists.{any, all}
-use Rattle.table.specs.Mask.{positions}
+use Rattle.table.specs.Mask.{positionCount, positions}
 
 unfoldable pub matched : List ℕ → List (List ℕ) → ℕ → Bool
 matched es win v = any (λ e. all (λ n. eqb (windowAt win n) v) (positions e)) es
 
 pub record Shared (es : List ℕ) (p : ℕ) : Type 0 where
-  pub having : p < 25 → all (λ e. bit e p) es ≡ true
+  pub having : p < positionCount → all (λ e. bit e p) es ≡ true

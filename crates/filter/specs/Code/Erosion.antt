@@ -10,10 +10,8 @@
 --     0 0 0 0 0 0 0 0 0 0 0       the map's value there.
 --     ..
 --
---     maxWidth, maxHeight      the largest image
---     Openable w h img out     what the opening map asks: an image of at most that size, and room for the map
+--     Openable w h img out     what the opening map asks: an image of at most the largest size, and room for the map
 --     colours p                the code with bit v for p v
---     places                   the positions of a window
 --     margin, stride w         the frame's breadth, and the length of a framed row
 --     within size i            place i of a framed side of that size lies in the image
 --     shift s b                how far behind a window's first pixel its position b lies, where rows are s long; span s: the last
@@ -32,28 +30,20 @@ use mathlib.Core.Path.{_≡_}
 use Prim.Native.Nat.{ℕ, _+_, _-_, _*_, _≤_, _<_}
 use lib.Dec.{leb, ltb, eqb}
 use lib.ListN.{length, getD}
+use Rattle.image.specs.Size.{maxSide}
 use Rattle.operator.specs.Image.{pixel, IsImage}
 use Rattle.seq.specs.Bits.{bit}
 use Rattle.seq.specs.Lists.{any, all, one}
 use Rattle.table.specs.Mask.{across, down, positions}
 
-abbrev pub maxWidth : ℕ
-maxWidth = 256
-
-abbrev pub maxHeight : ℕ
-maxHeight = 256
-
 pub record Openable (w h : ℕ) (img out : List ℕ) : Type 0 where
   pub image : IsImage w h img
-  pub narrow : w ≤ maxWidth
-  pub low : h ≤ maxHeight
+  pub narrow : w ≤ maxSide
+  pub low : h ≤ maxSide
   pub room : w * h ≤ length out
 
 abbrev pub colours : (ℕ → Bool) → ℕ
 colours p = one (p 0) + 2 * one (p 1)
-
-abbrev pub places : ℕ
-places = 25
 
 abbrev pub margin : ℕ
 margin = 4

@@ -8,7 +8,8 @@ use borrow.Author.Needs.{needs}
 use borrow.Author.Tests.{not-false}
 use Rattle.table.specs.Code.Search.{found, badNumber, lowestBad}
 use Rattle.table.specs.Mask.{validMask}
-use Rattle.table.specs.Record.{badPlace}
+use Rattle.table.specs.Record.{maxElements, badPlace}
+use Rattle.table.specs.Code.Search.{found, badNumber, lowestBad}
 use Rattle.table.proofs.Positions.{mask-lt}
 use Rattle.table.proofs.Verdicts.{search-lt, count-le, record-count, record-place, record-persistent, record-relations}
 use Rattle.table.proofs.check.Statement.{statement}
@@ -43,7 +44,7 @@ add-refused : tie.Need-add-refused
 unfolding lowestBad
 add-refused c =
     let t = c .before .before .before .before .before .before .args .table in
-    omega (arith, search-lt (badPlace t) 64 (c .before .before .before .first-bad-place .ensures) (c .before .k .given .1))
+    omega (arith, search-lt (badPlace t) maxElements (c .before .before .before .first-bad-place .ensures) (c .before .k .given .1))
 
 refused-requires-2 : tie.Need-refused-requires-2
 refused-requires-2 c κs = search needs

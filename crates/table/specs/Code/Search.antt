@@ -15,7 +15,7 @@ use Rattle.seq.specs.Tab.{first}
 use Rattle.table.specs.declared.Table.{Table}
 use Rattle.table.specs.declared.mask.Search.{Search}
 use Rattle.table.specs.declared.mask.Search.the-variants.{Found, Nothing}
-use Rattle.table.specs.Mask.{centre, validMask}
+use Rattle.table.specs.Mask.{positionCount, centre, validMask}
 use Rattle.table.specs.Record.{maxElements, badPlace}
 
 abbrev pub found : Search → Option ℕ
@@ -34,4 +34,4 @@ lowestBad t = first (badPlace t) maxElements
 pub record InRange (t : Table) : Type 0 where
   pub few : t .count ≤ maxElements
   pub placed : lowestBad t ≡ none
-  pub masked : t .persistent < 2 ^ 25
+  pub masked : t .persistent < 2 ^ positionCount

@@ -3,10 +3,10 @@ use mathlib.Core.Path.{_≡_, sym, _∙_}
 use borrow.Author.Needs.{needs}
 use lib.ListN.{length}
 use Rattle.image.proofs.PixelsOf.{pixels-good}
+use Rattle.image.proofs.RowBytes.{sides}
 use Rattle.verdict.specs.declared.Verdict.the-variants.{Accepted}
 use Rattle.filter.specs.Applied.{againVerdict}
 use Rattle.filter.proofs.PassCodeApplied.{fits, again-refused, again-filled}
-use Rattle.filter.proofs.PassCodeSizes.{good-sides}
 use Rattle.filter.proofs.apply.again.Statement.{statement}
 use Rattle.filter.proofs.apply.again.Tie as tie
 
@@ -34,8 +34,8 @@ enum-told c = search needs
 filtered-requires : tie.Need-filtered-requires
 filtered-requires c κs =
     let f = fits _ _ _ _ _ (accepted (c .before)) in
-    let s = good-sides _ _ (pixels-good _ _ _ (f .good) .size) in
-    (f .in-range, f .image, s .narrow, s .low, f .room)
+    let s = sides _ _ (pixels-good _ _ _ (f .good) .size) in
+    (f .in-range, f .image, s .narrow, s .short, f .room)
 
 same-length : tie.Need-same-length
 same-length c = search needs

@@ -5,10 +5,11 @@ use native.Mathlib.Omega.{arith}
 use borrow.Author.Needs.{needs}
 use lib.ListN.{length, take}
 use lib.Seq.{length-take-le}
+use Rattle.image.proofs.RowBytes.{area-few}
+use Rattle.image.specs.Size.{maxPixels}
 use Rattle.table.specs.Record.{masks}
 use Rattle.filter.specs.Code.OpeningMap.{openMap}
 use Rattle.filter.proofs.PassCodeChecks.{ranged-count, ranged-valid, elements-part, map-part, map-length}
-use Rattle.filter.proofs.PassCodeSizes.{product-le}
 use Rattle.filter.proofs.apply.filtered.Statement.{statement}
 use Rattle.filter.proofs.apply.filtered.Tie as tie
 
@@ -22,8 +23,8 @@ mapped c = map-part _ _ _ _ _ (c .«open» .ensures)
 elements : (c : tie.After-places) → take (c .before .before .before .args .table .count) (c .places .result) ≡ masks (c .before .before .before .args .table)
 elements c = elements-part _ (c .places .ensures)
 
-area-le : (c : tie.Start) → c .args .width * c .args .height ≤ 65536
-area-le c = product-le _ _ (c .pre .2) (c .pre .3)
+area-le : (c : tie.Start) → c .args .width * c .args .height ≤ maxPixels
+area-le c = area-few (c .pre .2) (c .pre .3)
 
 places-requires : tie.Need-places-requires
 places-requires c κs = search needs

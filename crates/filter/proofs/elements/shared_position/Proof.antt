@@ -3,14 +3,15 @@ use mathlib.Core.Path.{sym, _∙_}
 use Prim.Native.Nat.{_-_, _≤_}
 use native.Mathlib.Omega.{arith}
 use borrow.Author.Needs.{needs}
+use Rattle.table.specs.Mask.{positionCount}
 use Rattle.filter.proofs.elements.shared_position.Statement.{statement}
 use Rattle.filter.proofs.elements.shared_position.Tie as tie
 
 abbrev Inv-loop : tie.InvT-loop
-Inv-loop elements mask n₀ n = n ≤ 25
+Inv-loop elements mask n₀ n = n ≤ positionCount
 
 abbrev μ-loop : tie.MeasureT-loop
-μ-loop elements mask n₀ n = 25 - n
+μ-loop elements mask n₀ n = positionCount - n
 
 shared-requires : tie.Need-shared-requires Inv-loop μ-loop
 shared-requires c κs = search needs

@@ -7,16 +7,17 @@ use native.Mathlib.Omega.{arith}
 use borrow.Author.Needs.{needs}
 use lib.ListN.{length}
 use Rattle.seq.specs.Bits.{bitsOf}
-use Rattle.filter.specs.Code.Erosion.{places, span, spread, joined, Coded}
+use Rattle.table.specs.Mask.{positionCount}
+use Rattle.filter.specs.Code.Erosion.{span, spread, joined, Coded}
 use Rattle.filter.proofs.OpeningErosion.{all-positions, dilate-none, dilate-set, dilate-clear}
 use Rattle.filter.proofs.opening.dilate.Statement.{statement}
 use Rattle.filter.proofs.opening.dilate.Tie as tie
 
 abbrev Inv-loop : tie.InvT-loop
-Inv-loop mask step reach solid out₀ b₀ out b = Coded (joined (spread (bitsOf b mask) step solid) out₀) out (span step) reach × (b ≤ places) × (length out ≡ length out₀)
+Inv-loop mask step reach solid out₀ b₀ out b = Coded (joined (spread (bitsOf b mask) step solid) out₀) out (span step) reach × (b ≤ positionCount) × (length out ≡ length out₀)
 
 abbrev μ-loop : tie.MeasureT-loop
-μ-loop mask step reach solid out₀ b₀ out b = places - b
+μ-loop mask step reach solid out₀ b₀ out b = positionCount - b
 
 loop-holds : tie.Need-loop-holds Inv-loop μ-loop
 loop-holds c = (dilate-none _ _ _ _ (c .before .before .pre .3), omega arith, refl)

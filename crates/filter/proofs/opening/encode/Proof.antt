@@ -7,7 +7,7 @@ use borrow.Author.Needs.{needs}
 use lib.ListN.{getD}
 use Rattle.seq.specs.Loops.{Swept}
 use Rattle.seq.proofs.Loops.{sweep-none, sweep-more, sweep-end}
-use Rattle.filter.proofs.OpeningCodes.{binary-at}
+use Rattle.image.proofs.PixelsOf.{binary-at}
 use Rattle.filter.proofs.opening.encode.Statement.{statement}
 use Rattle.filter.proofs.opening.encode.Tie as tie
 
@@ -29,7 +29,7 @@ shared-slice-read-out c = search needs
 add-out-2 : tie.Need-add-out-2 Inv-loop μ-loop
 add-out-2 c =
     let start = c .before .before .before in
-    omega (arith, binary-at (start .args .pixels .now) (start .pre .2) (start .args .from + c .before .before .loop .k))
+    omega (arith, binary-at (start .args .pixels .now) (start .args .from + c .before .before .loop .k) (start .pre .2))
 
 add-out-3 : tie.Need-add-out-3 Inv-loop μ-loop
 add-out-3 c = search needs

@@ -7,16 +7,17 @@ use native.Mathlib.Omega.{arith}
 use borrow.Author.Needs.{needs}
 use lib.ListN.{length}
 use Rattle.seq.specs.Bits.{bitsOf}
-use Rattle.filter.specs.Code.Erosion.{places, eroded, Coded}
+use Rattle.table.specs.Mask.{positionCount}
+use Rattle.filter.specs.Code.Erosion.{eroded, Coded}
 use Rattle.filter.proofs.OpeningErosion.{all-positions, erode-none, erode-set, erode-clear}
 use Rattle.filter.proofs.opening.erode.Statement.{statement}
 use Rattle.filter.proofs.opening.erode.Tie as tie
 
 abbrev Inv-loop : tie.InvT-loop
-Inv-loop mask step reach framed out₀ b₀ out b = Coded (eroded (bitsOf b mask) step framed) out 0 reach × (b ≤ places) × (length out ≡ length out₀)
+Inv-loop mask step reach framed out₀ b₀ out b = Coded (eroded (bitsOf b mask) step framed) out 0 reach × (b ≤ positionCount) × (length out ≡ length out₀)
 
 abbrev μ-loop : tie.MeasureT-loop
-μ-loop mask step reach framed out₀ b₀ out b = places - b
+μ-loop mask step reach framed out₀ b₀ out b = positionCount - b
 
 fill-requires : tie.Need-fill-requires Inv-loop μ-loop
 fill-requires c κs = search needs

@@ -10,7 +10,7 @@ use Rattle.seq.proofs.Grid.{cell-below, row-below, next-row}
 use Rattle.filter.specs.Code.Walk.{walkedAt}
 use Rattle.filter.proofs.PassCodeRow.{opened-none, opened-more, Judged, judged-none, judged-skip, judged-more}
 use Rattle.filter.proofs.PassCodeWalk.{tally-le}
-use Rattle.operator.proofs.Window.{binary-at}
+use Rattle.image.proofs.PixelsOf.{binary-at}
 use Rattle.filter.proofs.walk.walk_row.Statement.{statement}
 use Rattle.filter.proofs.walk.walk_row.Tie as tie
 

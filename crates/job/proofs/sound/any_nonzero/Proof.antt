@@ -7,15 +7,16 @@ use lib.Dec.{ltb}
 use lib.ListN.{take}
 use lib.Seq.{take-all}
 use Rattle.seq.specs.Lists.{any}
+use Rattle.table.specs.Record.{maxElements}
 use Rattle.job.proofs.Seen.{seen-more, seen-zero}
 use Rattle.job.proofs.sound.any_nonzero.Statement.{statement}
 use Rattle.job.proofs.sound.any_nonzero.Tie as tie
 
 abbrev Inv-loop : tie.InvT-loop
-Inv-loop elements seen₀ i₀ seen i = (i ≤ 64) × (ltb 0 seen ≡ any (ltb 0) (take i elements))
+Inv-loop elements seen₀ i₀ seen i = (i ≤ maxElements) × (ltb 0 seen ≡ any (ltb 0) (take i elements))
 
 abbrev μ-loop : tie.MeasureT-loop
-μ-loop elements seen₀ i₀ seen i = 64 - i
+μ-loop elements seen₀ i₀ seen i = maxElements - i
 
 loop-holds : tie.Need-loop-holds Inv-loop μ-loop
 loop-holds c = search needs

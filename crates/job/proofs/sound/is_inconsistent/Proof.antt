@@ -6,9 +6,15 @@ use borrow.Author.Needs.{needs}
 use borrow.Author.Tests.{lt-ltb, le-ltb}
 use Rattle.history.specs.State.{inconsistent}
 use Rattle.job.proofs.Inconsistent.{pixels-seen, stained, many-passes, counts-left}
+<<<<<<< HEAD:crates/job/proofs/sound/is_inconsistent/Proof.antt
 use Rattle.job.proofs.Settled.{small}
 use Rattle.job.proofs.sound.is_inconsistent.Statement.{statement}
 use Rattle.job.proofs.sound.is_inconsistent.Tie as tie
+=======
+use Rattle.image.proofs.RowBytes.{pixels-few, sides}
+use Rattle.job.proofs.sound.inconsistent.Statement.{statement}
+use Rattle.job.proofs.sound.inconsistent.Tie as tie
+>>>>>>> e96c3abc9a65ad4723f5a7cd9fe4ebfeed7f8b34:crates/job/proofs/sound/inconsistent/Proof.antt
 
 is-bad-requires : tie.Need-is-bad-requires
 is-bad-requires c κs = tt
@@ -36,7 +42,7 @@ enum-told-2 c = search needs
 mul-pixels : tie.Need-mul-pixels
 mul-pixels c =
     let size = c .before .before .before .before .before in
-    omega (arith, small _ _ (sym (size .before .is-bad .ensures) ∙ size .if1 .left))
+    omega (arith, pixels-few (sides _ _ (sym (size .before .is-bad .ensures) ∙ size .if1 .left)))
 
 returns-3 : tie.Need-returns-3
 unfolding inconsistent

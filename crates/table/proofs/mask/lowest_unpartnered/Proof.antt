@@ -7,15 +7,15 @@ use native.Mathlib.Omega.{arith}
 use borrow.Author.Needs.{needs}
 use Rattle.seq.specs.Bits.{bit}
 use Rattle.seq.proofs.Search.{Passed, passed-none, passed-more, passed-found, passed-all}
-use Rattle.table.specs.Mask.{partner, unpartnered}
+use Rattle.table.specs.Mask.{positionCount, partner, unpartnered}
 use Rattle.table.proofs.mask.lowest_unpartnered.Statement.{statement}
 use Rattle.table.proofs.mask.lowest_unpartnered.Tie as tie
 
 abbrev Inv-loop : tie.InvT-loop
-Inv-loop persistent element b₀ b = Passed (λ a. bit persistent a && not (partner persistent element a)) 25 b
+Inv-loop persistent element b₀ b = Passed (λ a. bit persistent a && not (partner persistent element a)) positionCount b
 
 abbrev μ-loop : tie.MeasureT-loop
-μ-loop persistent element b₀ b = 25 - b
+μ-loop persistent element b₀ b = positionCount - b
 
 loop-holds : tie.Need-loop-holds Inv-loop μ-loop
 loop-holds c = passed-none

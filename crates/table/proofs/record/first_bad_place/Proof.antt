@@ -5,16 +5,16 @@ use Prim.Native.Nat.{_-_}
 use native.Mathlib.Omega.{arith}
 use borrow.Author.Needs.{needs}
 use Rattle.seq.proofs.Search.{Passed, passed-none, passed-more, passed-found, passed-all}
+use Rattle.table.specs.Record.{maxElements, badPlace}
 use Rattle.table.specs.Code.Search.{lowestBad}
-use Rattle.table.specs.Record.{badPlace}
 use Rattle.table.proofs.record.first_bad_place.Statement.{statement}
 use Rattle.table.proofs.record.first_bad_place.Tie as tie
 
 abbrev Inv-loop : tie.InvT-loop
-Inv-loop table k₀ k = Passed (badPlace table) 64 k
+Inv-loop table k₀ k = Passed (badPlace table) maxElements k
 
 abbrev μ-loop : tie.MeasureT-loop
-μ-loop table k₀ k = 64 - k
+μ-loop table k₀ k = maxElements - k
 
 loop-holds : tie.Need-loop-holds Inv-loop μ-loop
 loop-holds c = passed-none

@@ -5,7 +5,7 @@ use Prim.Native.Nat.{ℕ, _-_, _*_, _≤_}
 use native.Mathlib.Omega.{arith}
 use borrow.Author.Needs.{needs}
 use lib.ListN.{length, getD}
-use Rattle.table.specs.Record.{masks}
+use Rattle.table.specs.Record.{maxElements, masks}
 use Rattle.table.proofs.Bytes.{firstBytes, first-size, count-bounds}
 use Rattle.table.proofs.writing.elements_length.Statement.{statement}
 use Rattle.table.proofs.writing.elements_length.Tie as tie
@@ -41,7 +41,7 @@ loop-again : tie.Need-loop-again Inv-loop μ-loop
 loop-again c =
     let t = c .before .before .before .before .args .t1 in
     let k = c .before .before .before .loop .k in
-    let whole : length (t .elements) ≡ 64 = search needs in
+    let whole : length (t .elements) ≡ maxElements = search needs in
     (omega (arith, first-size t k (omega arith)), omega (arith, count-bounds (getD (t .elements) k 0)), omega arith)
 
 returns : tie.Need-returns Inv-loop μ-loop

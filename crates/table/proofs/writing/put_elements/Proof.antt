@@ -6,7 +6,7 @@ use native.Mathlib.Omega.{arith}
 use borrow.Author.Needs.{needs}
 use lib.ListN.{length}
 use lib.Seq.{sets}
-use Rattle.table.specs.Record.{masks}
+use Rattle.table.specs.Record.{maxElements, masks}
 use Rattle.table.proofs.Bytes.{firstBytes, Placed, placed-none, placed-length, placed-fits, placed-more}
 use Rattle.table.proofs.writing.put_elements.Statement.{statement}
 use Rattle.table.proofs.writing.put_elements.Tie as tie
@@ -30,7 +30,7 @@ put-at-requires : tie.Need-put-at-requires Inv-loop μ-loop
 unfolding masks
 put-at-requires c κs =
     let t = c .before .before .before .before .before .args .t1 in
-    let whole : length (t .elements) ≡ 64 = search needs in
+    let whole : length (t .elements) ≡ maxElements = search needs in
     placed-fits (c .before .before .before .loop .inv .0) (t .count) (omega arith) (omega arith) (c .before .before .before .before .before .pre .1)
 
 add-k : tie.Need-add-k Inv-loop μ-loop
@@ -42,7 +42,7 @@ loop-less c = omega arith
 loop-again : tie.Need-loop-again Inv-loop μ-loop
 loop-again c =
     let t = c .before .before .before .before .before .before .before .before .args .t1 in
-    let whole : length (t .elements) ≡ 64 = search needs in
+    let whole : length (t .elements) ≡ maxElements = search needs in
     (placed-more (c .before .before .before .before .before .before .loop .inv .0) (omega arith) (c .before .before .put-at .ensures .0) (c .before .before .put-at .ensures .1), omega arith)
 
 same-length : tie.Need-same-length Inv-loop μ-loop
