@@ -7,7 +7,6 @@ ghost use lib.ListN.{length};
 ghost use lib.Seq.{sets};
 ghost use Rattle.image.specs.Code.Rows.{Sides, bytePixel, rowPixel};
 ghost use Rattle.image.specs.File.{pixelsOf};
-ghost use Rattle.image.specs.Code.Rows.{Sides, bytePixel, rowPixel};
 ghost use Rattle.image.specs.Size.{maxSide, rowBytes};
 ghost use Rattle.seq.specs.Tab.{tab};
 ghost use Rattle.verdict.specs.Writer.{over};

@@ -22,6 +22,7 @@ use Rattle.table.specs.declared.mask.Search.the-variants.{Found, Nothing
 use Rattle.table.specs.Mask.{positionCount, centre, validMask, unpartnered, persistentFor}
 use Rattle.table.specs.Record.{maxElements, element, persistents, notRising, badElement, badPlace, missing}
 use Rattle.table.proofs.Positions.{mask-least, mask-lt}
+use Rattle.table.specs.Code.Search.{found, badAfter, lowestBad}
 
 -- the first element has none before it, and a valid mask is above 0
 pub bad-first : (t : Table) (k : ℕ) → k ≡ 0 → badElement t k ≡ badAfter 0 (element t k)

@@ -7,17 +7,15 @@ use crate::number;
 use crate::number::NumberRead;
 use crate::record;
 use verdict::Verdict;
+ghost use Rattle.verdict.specs.declared.Verdict.the-variants as the-verdict;
 ghost use mathlib.Core.Path.{_≡_};
 ghost use Prim.Native.Nat.{_≤_};
 ghost use lib.ListN.{drop};
 ghost use Rattle.table.specs.Code.Reading.{CountRead, ElementsRead, LastRead, behindRules};
 ghost use Rattle.table.specs.Code.Search.{InRange};
 ghost use Rattle.table.specs.File.{rest, number, tableOf, readAs, readTable};
-ghost use Rattle.table.specs.Code.Reading.{CountRead, ElementsRead, LastRead, behindRules};
 ghost use Rattle.table.specs.Record.{maxElements, zeroTable, meetRule, persistRule};
-ghost use Rattle.table.specs.Code.Search.{InRange};
 ghost use Rattle.verdict.specs.Rules.{refusal, orElse, judge};
-ghost use Rattle.verdict.specs.declared.Verdict.the-variants as the-verdict;
 
 // The elements of a file, and the position past them where they are accepted.
 struct Elements {

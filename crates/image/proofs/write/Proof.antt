@@ -1,4 +1,5 @@
 -- `image::write` meets its contract. Assumes nothing.
+use Rattle.image.proofs.write.Tie as tie
 use mathlib.Core.List.{List}
 use mathlib.Core.Path.{_≡_, sym, ap, _∙_}
 use Prim.Native.Nat.{ℕ, _+_, _*_, _≤_}
@@ -8,7 +9,6 @@ use lib.ListN.{length}
 use Rattle.image.specs.Code.Rows.{Sides}
 use Rattle.image.specs.File.{pixelVerdict}
 use Rattle.image.specs.Header.{header}
-use Rattle.image.specs.Code.Rows.{Sides}
 use Rattle.image.specs.Size.{maxPixels, rowBytes}
 use Rattle.image.proofs.Decimal.{decimal-short}
 use Rattle.image.proofs.HeaderWritten.{header-length}
@@ -16,7 +16,6 @@ use Rattle.image.proofs.PixelsOf.{PixelsGood, pixels-good}
 use Rattle.image.proofs.RowBytes.{raster-few, sides}
 use Rattle.image.proofs.WriteOf.{binary, write-refused, write-short, write-filled}
 use Rattle.image.proofs.write.Statement.{statement}
-use Rattle.image.proofs.write.Tie as tie
 use Rattle.verdict.specs.declared.Verdict.the-variants.{Accepted}
 
 abbrev w : tie.After-enum-told → ℕ

@@ -1,5 +1,6 @@
 -- `check` meets its contract: the first rule that fails speaks.
 -- Assumes nothing.
+use Rattle.table.proofs.check.Tie as tie
 use mathlib.Core.Bool.{false, not}
 use mathlib.Core.Option.{none}
 use mathlib.Core.Path.{_≡_, sym, ap, _∙_}
@@ -9,11 +10,9 @@ use borrow.Author.Tests.{not-false}
 use Rattle.table.specs.Code.Search.{found, badNumber, lowestBad}
 use Rattle.table.specs.Mask.{validMask}
 use Rattle.table.specs.Record.{maxElements, badPlace}
-use Rattle.table.specs.Code.Search.{found, badNumber, lowestBad}
 use Rattle.table.proofs.Positions.{mask-lt}
 use Rattle.table.proofs.Verdicts.{search-lt, count-le, record-count, record-place, record-persistent, record-relations}
 use Rattle.table.proofs.check.Statement.{statement}
-use Rattle.table.proofs.check.Tie as tie
 
 -- what the passed rules say
 counted : (c : tie.Else1) → badNumber (c .before .before .args .table .count) ≡ false

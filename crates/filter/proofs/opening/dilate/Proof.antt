@@ -1,5 +1,6 @@
 -- `opening::dilate` meets its contract. The invariant: the colours of the translates are spread by the positions before b.
 -- Assumes nothing.
+use Rattle.filter.proofs.opening.dilate.Tie as tie
 use mathlib.Core.Logic.{⊎-elim}
 use mathlib.Core.Path.{_≡_, refl, _∙_, sym}
 use Prim.Native.Nat.{_≤_, _-_}
@@ -11,7 +12,6 @@ use Rattle.table.specs.Mask.{positionCount}
 use Rattle.filter.specs.Code.Erosion.{span, spread, joined, Coded}
 use Rattle.filter.proofs.OpeningErosion.{all-positions, dilate-none, dilate-set, dilate-clear}
 use Rattle.filter.proofs.opening.dilate.Statement.{statement}
-use Rattle.filter.proofs.opening.dilate.Tie as tie
 
 abbrev Inv-loop : tie.InvT-loop
 Inv-loop mask step reach solid out₀ b₀ out b = Coded (joined (spread (bitsOf b mask) step solid) out₀) out (span step) reach × (b ≤ positionCount) × (length out ≡ length out₀)

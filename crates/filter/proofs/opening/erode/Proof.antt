@@ -1,5 +1,6 @@
 -- `opening::erode` meets its contract. The invariant: each translate's code is the and of the positions before b.
 -- Assumes nothing.
+use Rattle.filter.proofs.opening.erode.Tie as tie
 use mathlib.Core.Logic.{⊎-elim}
 use mathlib.Core.Path.{_≡_, refl, _∙_, sym}
 use Prim.Native.Nat.{_≤_, _-_}
@@ -11,7 +12,6 @@ use Rattle.table.specs.Mask.{positionCount}
 use Rattle.filter.specs.Code.Erosion.{eroded, Coded}
 use Rattle.filter.proofs.OpeningErosion.{all-positions, erode-none, erode-set, erode-clear}
 use Rattle.filter.proofs.opening.erode.Statement.{statement}
-use Rattle.filter.proofs.opening.erode.Tie as tie
 
 abbrev Inv-loop : tie.InvT-loop
 Inv-loop mask step reach framed out₀ b₀ out b = Coded (eroded (bitsOf b mask) step framed) out 0 reach × (b ≤ positionCount) × (length out ≡ length out₀)

@@ -6,15 +6,9 @@ use borrow.Author.Needs.{needs}
 use borrow.Author.Tests.{lt-ltb, le-ltb}
 use Rattle.history.specs.State.{inconsistent}
 use Rattle.job.proofs.Inconsistent.{pixels-seen, stained, many-passes, counts-left}
-<<<<<<< HEAD:crates/job/proofs/sound/is_inconsistent/Proof.antt
-use Rattle.job.proofs.Settled.{small}
+use Rattle.image.proofs.RowBytes.{pixels-few, sides}
 use Rattle.job.proofs.sound.is_inconsistent.Statement.{statement}
 use Rattle.job.proofs.sound.is_inconsistent.Tie as tie
-=======
-use Rattle.image.proofs.RowBytes.{pixels-few, sides}
-use Rattle.job.proofs.sound.inconsistent.Statement.{statement}
-use Rattle.job.proofs.sound.inconsistent.Tie as tie
->>>>>>> e96c3abc9a65ad4723f5a7cd9fe4ebfeed7f8b34:crates/job/proofs/sound/inconsistent/Proof.antt
 
 is-bad-requires : tie.Need-is-bad-requires
 is-bad-requires c κs = tt

@@ -1,5 +1,6 @@
 -- `record::first_bad_place` meets its contract: a search over the places.
 -- Assumes nothing.
+use Rattle.table.proofs.record.first_bad_place.Tie as tie
 use mathlib.Core.Path.{sym, _∙_}
 use Prim.Native.Nat.{_-_}
 use native.Mathlib.Omega.{arith}
@@ -8,7 +9,6 @@ use Rattle.seq.proofs.Search.{Passed, passed-none, passed-more, passed-found, p
 use Rattle.table.specs.Record.{maxElements, badPlace}
 use Rattle.table.specs.Code.Search.{lowestBad}
 use Rattle.table.proofs.record.first_bad_place.Statement.{statement}
-use Rattle.table.proofs.record.first_bad_place.Tie as tie
 
 abbrev Inv-loop : tie.InvT-loop
 Inv-loop table k₀ k = Passed (badPlace table) maxElements k
