@@ -34,6 +34,11 @@ impl Random {
         (0..length).map(|_| self.byte()).collect()
     }
 
+    /// An output before a call: no byte is zero, so that one that is left alone or added to shows.
+    pub fn output(&mut self, length: usize) -> Vec<u8> {
+        (0..length).map(|_| 1 + self.below(255) as u8).collect()
+    }
+
     /// True in so many of a hundred cases.
     pub fn percent(&mut self, percent: usize) -> bool {
         self.below(100) < percent
@@ -203,8 +208,41 @@ fn block(x: usize, y: usize, seed: u64) -> u8 {
     (Random::new(seed ^ place).number() & 1) as u8
 }
 
-/// An image of a random kind.
+/// Stripes, diagonals, rectangles, blocks or rings of a random size, in either colour, with single pixels or noise on them.
+pub fn random_figure(width: usize, height: usize, random: &mut Random) -> Image {
+    let (across, down) = (1 + random.below(12), 1 + random.below(12));
+    let (shape, colour, seed) = (random.below(7), random.below(2), random.number());
+    let (left, top) = (random.below(4), random.below(4));
+    let percent = *random.choose(&[0, 0, 5, 8, 15]);
+    Image::from_fn(width, height, |x, y| {
+        let figure = match shape {
+            0 | 1 => 0,
+            2 => x / across,
+            3 => (x + y) / across,
+            4 => x / across + y / down,
+            5 => Random::new(seed ^ (512 * (y / down) + x / across) as u64).below(2),
+            _ => ring_and_point(x % 8, y % 8),
+        };
+        let spot = if percent == 0 {
+            x % 4 == left && y % 4 == top
+        } else {
+            random.percent(percent)
+        };
+        ((figure + colour + usize::from(spot)) % 2) as u8
+    })
+}
+
+/// A square ring with a point in it.
+fn ring_and_point(x: usize, y: usize) -> usize {
+    let inside = |from, to| (from..=to).contains(&x) && (from..=to).contains(&y);
+    usize::from(inside(1, 5) && !inside(2, 4) || inside(3, 3))
+}
+
+/// An image of a random kind, or a figure.
 pub fn random_image(width: usize, height: usize, random: &mut Random) -> Image {
+    if random.percent(30) {
+        return random_figure(width, height, random);
+    }
     let kind = *random.choose(&Kind::ALL);
     kind.image(width, height, random)
 }

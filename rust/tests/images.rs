@@ -56,7 +56,7 @@ fn round_trip(image: &Image, random: &mut Random, tally: &mut Tally) {
         assert!(answer.is_err() || area[..pixels.len()] == pixels[..]);
     }
     for length in [0, file.len() - 1, file.len(), file.len() + 7] {
-        let mut out = random.bytes(length);
+        let mut out = random.output(length);
         let answer = tally.note(write(*width, *height, pixels, &mut out));
         assert_eq!(answer.is_ok(), length >= file.len());
         assert!(answer.is_err() || out[..file.len()] == file[..]);
@@ -187,7 +187,7 @@ fn damaged_files() {
         let length = *random.choose(&[0, 20, 400, 1600, 1600, 1600]);
         let mut area = random.bytes(length);
         if let Ok((width, height)) = tally.note(read(&file, &mut area)) {
-            let mut out = random.bytes(file.len());
+            let mut out = random.output(file.len());
             let pixels = &area[..width * height];
             assert_eq!(write(width, height, pixels, &mut out), Ok(file.len()));
             assert_eq!(out, file, "an accepted file returns byte for byte");
@@ -236,7 +236,7 @@ fn damaged_pixels() {
             pixels,
         } = image;
         let length = random.below(400);
-        let mut out = random.bytes(length);
+        let mut out = random.output(length);
         let _ = tally.note(write(width, height, &pixels, &mut out));
     }
     tally.report("damaged pixels");

@@ -2,73 +2,10 @@
 
 mod common;
 
-use common::{report, State, Tally};
-use mask_cleaner::cases::{random_image, random_table, Random};
+use common::{report, State, Stock, Tally};
+use mask_cleaner::cases::Random;
 use mask_cleaner::model::{Answer, Book, Call, Entry};
-use mask_cleaner::record::{Reason, Refusal, TableRecord, STAGE_STABLE};
-use mask_cleaner::reference::image::file_of;
-
-/// What a list draws its loads from.
-struct Stock {
-    tables: Vec<TableRecord>,
-    files: Vec<Vec<u8>>,
-}
-
-impl Stock {
-    fn new(random: &mut Random, longest: usize) -> Stock {
-        let mut tables: Vec<TableRecord> = (0..3).map(|_| random_table(random, 12)).collect();
-        let mut files: Vec<Vec<u8>> = Vec::new();
-        for _ in 0..4 {
-            let (width, height) = (1 + random.below(longest), 1 + random.below(longest));
-            files.push(file_of(&random_image(width, height, random)));
-        }
-        let mut table = tables[0];
-        for _ in 0..1 + random.below(3) {
-            table = damaged_table(table, random);
-        }
-        tables.push(table);
-        files.push(damaged_file(files[0].clone(), random));
-        Stock { tables, files }
-    }
-
-    fn call(&self, random: &mut Random) -> Call {
-        match random.below(20) {
-            0..=4 => Call::Load {
-                table: *random.choose(&self.tables),
-                file: random.choose(&self.files).clone(),
-            },
-            5..=11 => Call::Pass,
-            12 | 13 => Call::Run,
-            14 | 15 => Call::View,
-            16 => Call::Figures,
-            _ => Call::Collect {
-                out_length: *random.choose(&[0, 7, 8, 9, 30, 60, 60, 60]),
-            },
-        }
-    }
-}
-
-fn damaged_table(mut table: TableRecord, random: &mut Random) -> TableRecord {
-    match random.below(5) {
-        0 => table.count = *random.choose(&[0, 65]),
-        1 => table.elements[random.below(64)] ^= 1 << random.below(32),
-        2 => table.persistent = 0,
-        3 => table.persistent ^= 1 << random.below(25),
-        _ => table.elements[0] = 4096,
-    }
-    table
-}
-
-fn damaged_file(mut file: Vec<u8>, random: &mut Random) -> Vec<u8> {
-    let place = random.below(file.len());
-    match random.below(4) {
-        0 => file.truncate(place),
-        1 => file.push(0),
-        2 => file[place] ^= 1 << random.below(8),
-        _ => file = b"P4\n257 1\n".to_vec(),
-    }
-    file
-}
+use mask_cleaner::record::{Reason, Refusal, STAGE_STABLE};
 
 /// What the record must say after a list, by the book.
 fn assert_book(state: &State, book: &Book) {
@@ -117,7 +54,7 @@ fn list(random: &mut Random, tally: &mut Tally, longest: usize, most: usize) -> 
             Call::Collect { out_length } => out_length,
             _ => 0,
         };
-        let mut out = random.bytes(out_length);
+        let mut out = random.output(out_length);
         let before = out.clone();
         let steps_before = book_steps(&book);
         let expected = book.enter(&call, state.areas());
@@ -160,13 +97,8 @@ fn short_lists() {
         0,
         "no call of a list answers 14"
     );
-    let reasons = [
-        Reason::Short,
-        Reason::NotCollected,
-        Reason::Empty,
-        Reason::NotStable,
-    ];
-    for reason in reasons {
+    let reasons = [&Reason::ALL[2..7], &Reason::ALL[8..13], &Reason::ALL[14..]];
+    for reason in reasons.concat() {
         assert!(tally.times(reason) >= 100, "{reason:?}");
     }
 }

@@ -21,7 +21,7 @@ fn returned(file: &[u8]) -> Image {
     let (width, height) = library::read_image(file, &mut area).expect("an accepted file");
     let image = Image::new(width, height, &area[..width * height]);
     assert_eq!(parse(file).as_ref(), Ok(&image));
-    let mut out = vec![0; file.len()];
+    let mut out = vec![0xA5; file.len()];
     let written = library::write_image(width, height, &image.pixels, &mut out);
     assert_eq!(written, Ok(file.len()));
     assert_eq!(out, file);

@@ -1,14 +1,14 @@
-//! Passes: the library beside the reference by definition, pass by pass, over sizes, kinds of images and tables.
+//! Passes and whole jobs: the library beside the reference by definition, pass by pass, over sizes, kinds of images and tables.
 
 mod common;
 
 use common::{report, State};
-use mask_cleaner::cases::{cross, median, named_tables, random_image, random_table, ring};
-use mask_cleaner::cases::{Kind, Random};
+use mask_cleaner::cases::{cross, median, named_tables, random_figure, random_image, ring};
+use mask_cleaner::cases::{random_table, Kind, Random};
 use mask_cleaner::fast::Filter;
 use mask_cleaner::library;
 use mask_cleaner::model::{Answer, Call};
-use mask_cleaner::record::{JobRecord, Progress, TableRecord};
+use mask_cleaner::record::{JobRecord, Progress, TableRecord, STAGE_STABLE};
 use mask_cleaner::reference::image::{file_of, Image};
 
 /// What a test ran.
@@ -28,7 +28,10 @@ impl Counts {
     }
 }
 
-/// Loads an image and makes passes until it is stable, at most so many; library and reference agree after each.
+/// Up to so many pixels a job is done twice, by passes and by a run.
+const RUN_PIXELS: usize = 1500;
+
+/// Loads an image and makes passes until it is stable, at most so many, then all other calls; library and reference agree after each.
 fn compare(
     image: &Image,
     table: &TableRecord,
@@ -49,11 +52,33 @@ fn compare(
         let answer = state.apply_both(&Call::Pass, &mut []);
         counts.passes += 1;
         if answer == Ok(Answer::Progress(Progress::Stable)) {
-            return;
+            break;
         }
         assert_eq!(answer, Ok(Answer::Progress(Progress::Changed)));
         counts.changing += 1;
     }
+    let stable = state.clone();
+    finish(&mut state, image, random);
+    if pixels <= RUN_PIXELS {
+        assert_eq!(state.apply_both(&load, &mut []), Ok(Answer::Loaded));
+        let answer = state.apply_both(&Call::Run, &mut []);
+        assert_eq!(answer, Ok(Answer::Progress(Progress::Stable)));
+        assert_eq!(state, stable, "a run ends as its passes called singly");
+        finish(&mut state, image, random);
+    }
+}
+
+/// View and figures; then collect, which is refused while the image is not stable.
+fn finish(state: &mut State, image: &Image, random: &mut Random) {
+    let stable = state.record.stage == STAGE_STABLE;
+    for call in [Call::View, Call::Figures] {
+        let answer = state.apply_both(&call, &mut []);
+        assert!(answer.is_ok());
+    }
+    let out_length = file_of(image).len() + random.below(9);
+    let mut out = random.output(out_length);
+    let answer = state.apply_both(&Call::Collect { out_length }, &mut out);
+    assert_eq!(answer.is_ok(), stable);
 }
 
 fn some_table(random: &mut Random) -> TableRecord {
@@ -85,6 +110,25 @@ fn all_small_sizes() {
         }
     }
     counts.report("all sizes from 1 to 17");
+}
+
+#[test]
+fn figures() {
+    let mut random = Random::new(47);
+    let mut counts = Counts::default();
+    for case in 0..12_000 {
+        let (width, height) = match case % 8 {
+            0 => (1 + random.below(256), 1 + random.below(6)),
+            1 => (1 + random.below(6), 1 + random.below(256)),
+            2 => (1 + random.below(33), 1 + random.below(33)),
+            _ => (1 + random.below(17), 1 + random.below(17)),
+        };
+        let table = some_table(&mut random);
+        let image = random_figure(width, height, &mut random);
+        compare(&image, &table, 400, &mut random, &mut counts);
+    }
+    counts.report("figures");
+    assert!(counts.changing >= counts.jobs / 3, "too few passes change");
 }
 
 #[test]

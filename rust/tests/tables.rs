@@ -58,7 +58,7 @@ fn accepted_tables_return() {
         let file = reference::file_of(&table);
         assert_eq!(read(&file), Ok(table));
         for length in [0, file.len() - 1, file.len(), file.len() + 9] {
-            let mut out = random.bytes(length);
+            let mut out = random.output(length);
             let answer = tally.note(write(&table, &mut out));
             assert_eq!(answer.is_ok(), length >= file.len());
             assert!(answer.is_err() || out[..file.len()] == file);
@@ -160,11 +160,10 @@ fn records() {
     for _ in 0..120_000 {
         let table = record(&mut random);
         let answer = tally.note(check(&table));
-        let mut out = random.bytes(300);
-        let written = write(&table, &mut out);
+        let written = write(&table, &mut random.output(300));
         assert_eq!(written.map(|_| ()), answer);
-        let mut short = out[..random.below(6)].to_vec();
-        let _ = write(&table, &mut short);
+        let length = random.below(if table.count < 8 { 30 } else { 300 });
+        let _ = tally.note(write(&table, &mut random.output(length)));
         assert_eq!(Table::from_record(table).is_ok(), answer.is_ok());
     }
     tally.report("table records");
@@ -174,8 +173,9 @@ fn records() {
         Reason::Disjoint,
         Reason::Persistent,
         Reason::NotPersistent,
+        Reason::Short,
     ];
-    assert_reached(&tally, &reasons, &[Reason::Count]);
+    assert_reached(&tally, &reasons, &[Reason::Count, Reason::Short]);
 }
 
 /// The file of a record whose numbers need not be accepted.
@@ -218,7 +218,7 @@ fn damage_file(file: &mut Vec<u8>, random: &mut Random) {
         return;
     }
     let place = random.below(file.len());
-    match random.below(8) {
+    match random.below(9) {
         0 => file.truncate(place),
         1 => file.push(random.byte()),
         2 => file.extend([0, 1, 2]),
@@ -226,6 +226,7 @@ fn damage_file(file: &mut Vec<u8>, random: &mut Random) {
         4 => file[place] = random.byte(),
         5 => lengthen(file, place),
         6 => file.truncate(place + 1),
+        7 => file[place..].iter_mut().take(4).for_each(|b| *b |= 0x80),
         _ => file[place] |= 0x80,
     }
 }
@@ -255,7 +256,7 @@ fn files() {
     for _ in 0..120_000 {
         let file = any_file(&mut random);
         if let Ok(table) = tally.note(read(&file)) {
-            let mut out = random.bytes(file.len());
+            let mut out = random.output(file.len());
             assert_eq!(write(&table, &mut out), Ok(file.len()));
             assert_eq!(out, file, "an accepted file returns byte for byte");
         }

@@ -4,9 +4,9 @@ mod common;
 
 use common::report;
 use mask_cleaner::cases::{cross, median, ring};
-use mask_cleaner::job::{Job, Table};
+use mask_cleaner::job::Table;
 use mask_cleaner::library;
-use mask_cleaner::record::{Progress, Reason, Refusal, TableRecord};
+use mask_cleaner::record::{JobRecord, Progress, Reason, Refusal, TableRecord};
 use mask_cleaner::reference::image::{file_of, Image};
 use mask_cleaner::reference::pass::plain;
 
@@ -14,16 +14,21 @@ fn only(width: usize, height: usize, black: impl Fn(usize, usize) -> bool) -> Im
     Image::from_fn(width, height, |x, y| u8::from(black(x, y)))
 }
 
-/// Loads, runs to rest and collects; passes, added, removed and the file.
-fn clean(record: TableRecord, image: &Image) -> (usize, usize, usize, Vec<u8>) {
-    let table = Table::from_record(record).expect("an accepted table");
-    let mut job = Job::for_pixels(image.pixels.len());
-    job.load(&table, &file_of(image)).expect("an accepted load");
-    job.run().expect("an accepted run");
-    assert_eq!(job.pass(), Ok(Progress::Stable));
-    let record = *job.record();
-    let file = job.collect().expect("an accepted collect");
-    (record.passes, record.added, record.removed, file)
+/// Loads, runs to rest and collects; passes, added, removed and the file. No byte of areas and output is zero before.
+fn clean(table: TableRecord, image: &Image) -> (usize, usize, usize, Vec<u8>) {
+    let (pixels, file) = (image.pixels.len(), file_of(image));
+    let (mut first, mut second) = (vec![0xA5; pixels], vec![0x5A; pixels]);
+    let mut out = vec![0xC3; file.len()];
+    let mut job = JobRecord::EMPTY;
+    library::load(&mut job, &table, &file, &mut first, &second).expect("an accepted load");
+    for _ in 0..2 {
+        let answer = library::run(&mut job, &mut first, &mut second);
+        assert_eq!(answer, Ok(Progress::Stable));
+    }
+    let counts = job;
+    let length = library::collect(&mut job, &first, &second, &mut out);
+    assert_eq!((length, job), (Ok(file.len()), JobRecord::EMPTY));
+    (counts.passes, counts.added, counts.removed, out)
 }
 
 #[test]

@@ -1,9 +1,10 @@
-//! Records that a caller made up: library and reference agree on every call, for each clause of 14 and for its clause on passes.
+//! Records that a caller made up: library and reference agree on every call, for each clause of 14 and for its clause on passes, and in lists of
+//! calls between which others alter record and areas.
 
 mod common;
 
-use common::{report, State, Tally};
-use mask_cleaner::cases::{random_image, random_table, Kind, Random};
+use common::{report, State, Stock, Tally};
+use mask_cleaner::cases::{cross, random_image, random_table, ring, Kind, Random};
 use mask_cleaner::model::{Answer, Call};
 use mask_cleaner::record::{
     JobRecord, Progress, Reason, Refusal, TableRecord, STAGE_LOADED, STAGE_STABLE,
@@ -174,7 +175,7 @@ fn try_all(state: &State, random: &mut Random, tally: &mut Tally) {
     for call in calls {
         let mut copy = state.clone();
         let length = *random.choose(&[0, 8, 60, 60]);
-        let mut out = random.bytes(length);
+        let mut out = random.output(length);
         let answer = tally.note(copy.apply_both(&call, &mut out));
         let keeps_passes = matches!(call, Call::Run);
         if answer.is_err() && !keeps_passes {
@@ -300,4 +301,69 @@ fn run_keeps_its_passes() {
         "runs that meet 14's clause on passes: {cases} cases, {kept} of them with passes kept"
     ));
     assert!(kept >= 100);
+}
+
+/// Alters one field of the record, often to a value that is sound, or a byte of an area, or empties the record.
+fn alter(state: &mut State, random: &mut Random) {
+    let State {
+        record,
+        first,
+        second,
+    } = state;
+    let pixels = record.width.saturating_mul(record.height);
+    let area = if random.percent(50) { first } else { second };
+    let place = random.below(area.len() + 1);
+    match random.below(14) {
+        0 | 1 => record.stage = *random.choose(&[STAGE_LOADED, STAGE_STABLE]),
+        2 => record.stage = random.below(4) as u8,
+        3 => record.passes = *random.choose(&[0, 1, pixels, pixels.saturating_add(1)]),
+        4 => record.added = *random.choose(&[0, pixels, usize::MAX]),
+        5 => record.removed = *random.choose(&[0, pixels / 2, pixels, usize::MAX]),
+        6 => std::mem::swap(&mut record.width, &mut record.height),
+        7 => damage_size(record, random),
+        8 => damage_table(&mut record.table, random),
+        9 => record.table = *random.choose(&[TableRecord::EMPTY, ring(), cross()]),
+        10..=12 => *record = JobRecord::EMPTY,
+        _ => area
+            .iter_mut()
+            .skip(place)
+            .take(1)
+            .for_each(|byte| *byte = random.byte() % 3),
+    }
+}
+
+#[test]
+fn lists_between_alterations() {
+    let mut random = Random::new(64);
+    let mut tally = Tally::default();
+    let (lists, calls, mut altered) = (20_000, 16, 0);
+    for _ in 0..lists {
+        let stock = Stock::new(&mut random, 9);
+        let room = random.below(90);
+        let other = if random.percent(75) {
+            room
+        } else {
+            random.below(90)
+        };
+        let mut state = State::empty(random.bytes(room), random.bytes(other));
+        for _ in 0..calls {
+            if random.percent(15) {
+                alter(&mut state, &mut random);
+                altered += 1;
+            }
+            let call = stock.call(&mut random);
+            let length = random.below(60);
+            let mut out = random.output(length);
+            let _ = tally.note(state.apply_both(&call, &mut out));
+        }
+    }
+    report(&format!(
+        "lists of {calls} calls: {lists}, with {altered} alterations by others"
+    ));
+    tally.report("calls in such lists");
+    let reasons = [&Reason::ALL[2..7], &Reason::ALL[8..]];
+    for reason in reasons.concat() {
+        assert!(tally.times(reason) >= 100, "{reason:?}");
+    }
+    assert!(tally.accepted >= tally.cases / 10);
 }

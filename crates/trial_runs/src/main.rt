@@ -1,33 +1,24 @@
-// Trials against a second implementation (01, Trial sheets and tables): it and the library get the same calls, and all that they leave is
-// compared. It is written from 01, shares plain data types only, and stands in masks, records, table_files, image_files, passes and calls.
+// Trials against a second implementation (01, Trial sheets and tables): it and the library do the same jobs, and all that they leave is
+// compared. It is written from 01, shares plain data types only, and stands in passes, files and definition.
 mod bytes;
-mod calls;
-mod compare;
-mod damage;
+mod definition;
+mod files;
 mod generator;
-mod image_files;
+mod grid;
 mod images;
-mod lists;
-mod masks;
-mod ours;
-mod pairs;
+mod jobs;
+mod library;
 mod passes;
-mod records;
-mod refusals;
 mod report;
 mod sides;
-mod sizes;
-mod table_files;
 mod tables;
 mod trials;
 
 fn main() {
-    let tally = trials::named(report::none());
-    let tally = sizes::small(tally);
-    let tally = sizes::narrow(tally);
-    let tally = sizes::large(tally);
-    let tally = trials::refused_tables(tally);
-    let tally = trials::refused_images(tally);
-    let tally = trials::call_lists(tally);
-    report::print(tally);
+    trials::width(256);
+    trials::width(257);
+    let tally = trials::generated(trials::median(), 1, 8, 8);
+    let tally = trials::generated(tally, 2, 33, 33);
+    let tally = trials::generated(tally, 3, 256, 4);
+    report::summary(trials::generated(tally, 4, 4, 256));
 }

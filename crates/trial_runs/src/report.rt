@@ -1,113 +1,78 @@
-// What the runs found, counted and printed.
+// What the trials found, counted and printed.
 use crate::bytes;
+use history::Job;
 use libc::STDOUT_FILENO;
 
-const NUMBERS: usize = 18;
-
-const PRINTED: usize = 20;
-
-// `refused` counts by refusal number, `places` has a bit for each place (below 64) of a number.
 pub(crate) struct Tally {
     pub pairs: usize,
-    pub passes: usize,
-    pub changed: usize,
-    pub accepted: usize,
-    pub lists: usize,
     pub calls: usize,
+    pub passes: usize,
+    pub pixels: usize,
     pub wrong: usize,
-    pub refused: [usize; 18],
-    pub places: [u64; 18],
 }
 
 pub(crate) fn none() -> Tally {
     Tally {
         pairs: 0,
-        passes: 0,
-        changed: 0,
-        accepted: 0,
-        lists: 0,
         calls: 0,
+        passes: 0,
+        pixels: 0,
         wrong: 0,
-        refused: [0usize; NUMBERS],
-        places: [0u64; NUMBERS],
     }
 }
 
-// One refusal more, on which both sides agree. Number 0 is none.
-pub(crate) fn with_refusal(tally: Tally, number: u32, place: usize) -> Tally {
-    let n = number as usize;
+// One call more, on which both sides agree.
+pub(crate) fn with_call(tally: Tally) -> Tally {
     let mut next = tally;
-    if 1 <= n && n < NUMBERS {
-        next.refused[n] = bytes::more(tally.refused[n], 1);
-        next.places[n] = tally.places[n] | bit(place);
-    }
+    next.calls = bytes::more(tally.calls, 1);
     next
 }
 
-fn bit(place: usize) -> u64 {
-    1u64 << (place % 64)
+// One pair more, with the record of its job at rest.
+pub(crate) fn with_pair(tally: Tally, job: Job) -> Tally {
+    let mut next = tally;
+    next.pairs = bytes::more(tally.pairs, 1);
+    next.passes = bytes::more(tally.passes, job.passes);
+    next.pixels = bytes::more(tally.pixels, bytes::more(job.added, job.removed));
+    next
 }
 
-// One disagreement more: the first few are printed, with what was compared and the seeds.
-pub(crate) fn disagree(tally: Tally, what: &[u8], seed: u32) -> Tally {
+const PRINTED: usize = 20;
+
+// One disagreement more; of the first few the job's seed is printed.
+pub(crate) fn disagree(tally: Tally, seed: u32) -> Tally {
     if tally.wrong < PRINTED {
-        io::write_all(STDOUT_FILENO, b"disagreement: ");
-        io::write_all(STDOUT_FILENO, what);
-        io::write_all(STDOUT_FILENO, b", seed ");
-        number(seed as usize);
-        end();
+        print(
+            b"disagreement in the job of seed #\n",
+            [seed as usize, 0, 0, 0, 0],
+        );
     }
     let mut next = tally;
     next.wrong = bytes::more(tally.wrong, 1);
     next
 }
 
-pub(crate) fn print(tally: Tally) {
-    line(b"pairs of image and table", tally.pairs);
-    line(b"passes compared", tally.passes);
-    line(b"pixels changed", tally.changed);
-    line(b"tables accepted", tally.accepted);
-    line(b"lists of calls", tally.lists);
-    line(b"calls in them", tally.calls);
-    refusals(tally);
-    line(b"disagreements", tally.wrong);
-}
-
-fn refusals(tally: Tally) {
-    for n in 1..18 {
-        io::write_all(STDOUT_FILENO, b"refused by ");
-        number(n);
-        space();
-        number(tally.refused[n]);
-        io::write_all(STDOUT_FILENO, b" at places ");
-        number(ones(tally.places[n]));
-        end();
+// The text, with a number in each place of `#`.
+pub(crate) fn print(text: &[u8], numbers: [usize; 5]) {
+    let mut k: usize = 0;
+    for i in 0..text.len() {
+        if text[i] == b'#' {
+            io::print_decimal(STDOUT_FILENO, numbers[k % 5] as u64);
+            k = bytes::more(k, 1);
+        } else {
+            print_byte(text[i]);
+        }
     }
 }
 
-fn ones(set: u64) -> usize {
-    let mut total: usize = 0;
-    for k in 0..64 {
-        total = bytes::more(total, bytes::if_so(set & bit(k) != 0, 1));
-    }
-    total
+fn print_byte(byte: u8) {
+    let text = [byte];
+    io::write_all(STDOUT_FILENO, &text);
 }
 
-fn line(name: &[u8], n: usize) {
-    io::write_all(STDOUT_FILENO, name);
-    space();
-    number(n);
-    end();
-}
-
-fn number(n: usize) {
-    io::print_decimal(STDOUT_FILENO, n as u64);
-}
-
-fn space() {
-    io::write_all(STDOUT_FILENO, b" ");
-}
-
-fn end() {
-    io::write_all(STDOUT_FILENO, b"\n");
+pub(crate) fn summary(t: Tally) {
+    print(
+        b"pairs of table and image #\ncalls compared #\npasses that changed pixels #\npixels changed in them #\ndisagreements #\n",
+        [t.pairs, t.calls, t.passes, t.pixels, t.wrong],
+    );
 }

@@ -8,19 +8,16 @@ use Rattle.trial_runs.proofs.bytes.copy.Statement.{statement}
 use Rattle.trial_runs.proofs.bytes.copy.Tie as tie
 
 abbrev Inv-loop : tie.InvT-loop
-Inv-loop from start to₀ place n k₀ to k = (k ≤ n) × (length to ≡ length to₀)
+Inv-loop from n to₀ place k₀ to k = (k ≤ n) × (length to ≡ length to₀)
 
 abbrev μ-loop : tie.MeasureT-loop
-μ-loop from start to₀ place n k₀ to k = n - k
+μ-loop from n to₀ place k₀ to k = n - k
 
 loop-holds : tie.Need-loop-holds Inv-loop μ-loop
 loop-holds c = search needs
 
 more-requires : tie.Need-more-requires Inv-loop μ-loop
 more-requires c κs = search needs
-
-more-requires-2 : tie.Need-more-requires-2 Inv-loop μ-loop
-more-requires-2 c κs = search needs
 
 at-requires : tie.Need-at-requires Inv-loop μ-loop
 at-requires c κs = search needs
@@ -51,7 +48,6 @@ copy-spec =
     μ-loop
     loop-holds
     more-requires
-    more-requires-2
     at-requires
     put-requires
     add-k

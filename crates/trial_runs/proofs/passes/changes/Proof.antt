@@ -6,25 +6,22 @@ use Rattle.trial_runs.proofs.passes.changes.Statement.{statement}
 use Rattle.trial_runs.proofs.passes.changes.Tie as tie
 
 abbrev Inv-loop : tie.InvT-loop
-Inv-loop map width height elements count k wanted row col e₀ e = e ≤ 64
+Inv-loop pixels size place other table e₀ e = e ≤ 64
 
 abbrev μ-loop : tie.MeasureT-loop
-μ-loop map width height elements count k wanted row col e₀ e = 64 - e
-
-row-of-requires : tie.Need-row-of-requires Inv-loop μ-loop
-row-of-requires c κs = search needs
-
-col-of-requires : tie.Need-col-of-requires Inv-loop μ-loop
-col-of-requires c κs = search needs
+μ-loop pixels size place other table e₀ e = 64 - e
 
 loop-holds : tie.Need-loop-holds Inv-loop μ-loop
 loop-holds c = search needs
 
-mask-at-requires : tie.Need-mask-at-requires Inv-loop μ-loop
-mask-at-requires c κs = search needs
+mul-fits : tie.Need-mul-fits Inv-loop μ-loop
+mul-fits c = search needs
 
-element-opened-requires : tie.Need-element-opened-requires Inv-loop μ-loop
-element-opened-requires c κs = search needs
+element-copy-out-fits : tie.Need-element-copy-out-fits Inv-loop μ-loop
+element-copy-out-fits c = search needs
+
+fits-requires : tie.Need-fits-requires Inv-loop μ-loop
+fits-requires c κs = search needs
 
 returns : tie.Need-returns Inv-loop μ-loop
 returns c = search needs
@@ -47,11 +44,10 @@ changes-spec =
     (tie.spec
     Inv-loop
     μ-loop
-    row-of-requires
-    col-of-requires
     loop-holds
-    mask-at-requires
-    element-opened-requires
+    mul-fits
+    element-copy-out-fits
+    fits-requires
     returns
     add-e
     loop-less

@@ -6,10 +6,10 @@ use Rattle.trial_runs.proofs.passes.solid.Statement.{statement}
 use Rattle.trial_runs.proofs.passes.solid.Tie as tie
 
 abbrev Inv-loop : tie.InvT-loop
-Inv-loop pixels width height persistent row col b value m₀ m = m ≤ 25
+Inv-loop pixels size persistent place b value m₀ m = m ≤ 25
 
 abbrev μ-loop : tie.MeasureT-loop
-μ-loop pixels width height persistent row col b value m₀ m = 25 - m
+μ-loop pixels size persistent place b value m₀ m = 25 - m
 
 loop-holds : tie.Need-loop-holds Inv-loop μ-loop
 loop-holds c = search needs
