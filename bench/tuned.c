@@ -2,7 +2,8 @@
      codes    1 for white, 2 for black, 0 in the frame
      eroded   at an origin, the bitwise and of the codes of the translate there: 1 or 2 if it is of one colour, else 0
      opened   at a pixel, the bitwise or of eroded at the origins whose translates contain it; the frame repeats the edge.
-   The elements are tested as masks against the 25 bits of the window that are opened for the other colour. */
+   The elements are tested as masks against the 25 bits of the window that are opened for the other colour. It takes the library's two
+   shortcuts: a row in which every pixel is opened is done with, and a position that all elements share is looked at first. */
 #include "baseline.h"
 
 #include <string.h>
@@ -74,11 +75,18 @@ static int some_element(const mask_table *table, const steps *used, const uint8_
     return found;
 }
 
+/* Whether every pixel of a row is opened. */
+static int all_opened(const uint8_t *row, size_t width) {
+    uint8_t least = 2;
+    for (size_t x = 0; x < width; x++) least = row[x] < least ? row[x] : least;
+    return least != 0;
+}
+
 void tuned_pass(const mask_table *table, size_t width, size_t height, const uint8_t *image, uint8_t *next, pass_counts *counts) {
     int stride = width + 2 * FRAME;
-    uint32_t all = 0;
-    for (size_t e = 0; e < table->count; e++) all |= table->elements[e];
-    steps used = steps_of(all, stride), persistent = steps_of(table->persistent, stride);
+    uint32_t all = 0, common = UINT32_MAX;
+    for (size_t e = 0; e < table->count; e++) all |= table->elements[e], common &= table->elements[e];
+    steps used = steps_of(all, stride), shared = steps_of(common, stride), persistent = steps_of(table->persistent, stride);
     fill_codes(width, height, stride, image);
     open_image(&persistent, width, height, stride);
     repeat_edge(width, height, stride);
@@ -86,9 +94,11 @@ void tuned_pass(const mask_table *table, size_t width, size_t height, const uint
     memcpy(next, image, width * height);
     for (size_t y = 0; y < height; y++) {
         const uint8_t *row = opened + (y + FRAME) * stride + FRAME;
+        if (all_opened(row, width)) continue;
         for (size_t x = 0; x < width; x++) {
-            uint8_t value = image[y * width + x];
-            if (row[x] || !some_element(table, &used, row + x, 2 - value)) continue;
+            uint8_t value = image[y * width + x], code = 2 - value;
+            if (row[x] || (shared.count && row[(int)x + shared.step[0]] != code)) continue;
+            if (!some_element(table, &used, row + x, code)) continue;
             next[y * width + x] = 1 - value;
             changed[value]++;
         }

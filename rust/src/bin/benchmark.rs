@@ -28,9 +28,6 @@ const SMALL: Plan = Plan {
     full_tables: 1,
 };
 
-/// The bar for the check of a full table, in microseconds.
-const CHECK_BAR: f64 = 50.0;
-
 const KINDS: [(&str, Kind); 4] = [
     ("noise", Kind::Noise),
     ("worn stripes", Kind::Worn),
@@ -197,7 +194,7 @@ fn print_check(plan: &Plan) {
     let random = median(times);
     let dense = check_time(&dense_table());
     println!("`mask_table_check`, accepted tables of 64 elements: {random:.1} microseconds (median of {number} random tables),");
-    println!("{dense:.1} (22 positions in each element, all 25 in the persistent one). The bar is {CHECK_BAR}.");
+    println!("{dense:.1} (22 positions in each element, all 25 in the persistent one).");
 }
 
 fn check_time(table: &TableRecord) -> f64 {
