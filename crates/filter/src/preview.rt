@@ -1,6 +1,5 @@
 // The preview (01, One pass): the 3 × 3 median.
 use crate::window;
-use verdict::Refusal;
 use verdict::Verdict;
 ghost use mathlib.Core.Bool.{true};
 ghost use mathlib.Core.List.{[], _∷_};
@@ -45,10 +44,7 @@ pub fn preview(width: usize, height: usize, pixels: &[u8], area: &mut [u8]) -> V
         return Verdict::Refused(refusal);
     }
     if area.len() < width * height {
-        return Verdict::Refused(Refusal {
-            number: verdict::AREA_SHORT,
-            place: 0,
-        });
+        return verdict::refused(verdict::AREA_SHORT, 0);
     }
     fill(width, height, pixels, area);
     Verdict::Accepted

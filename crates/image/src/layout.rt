@@ -52,5 +52,5 @@ pub(crate) fn read(file: &[u8]) -> Layout
 fn refused(number: u32) -> Layout
     ensures { λ r. ⌜ r ≡ Layout.Refused (refusal number 0) ⌝ }
 {
-    Layout::Refused(Refusal { number, place: 0 })
+    Layout::Refused(verdict::refusal_of(number, 0))
 }

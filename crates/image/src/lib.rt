@@ -39,10 +39,7 @@ pub fn read(file: &[u8], area: &mut [u8]) -> ImageRead
             start,
         } => {
             if area.len() < width * height {
-                return ImageRead::Refused(Refusal {
-                    number: verdict::AREA_SHORT,
-                    place: 0,
-                });
+                return ImageRead::Refused(verdict::refusal_of(verdict::AREA_SHORT, 0));
             }
             unpack::image(&file[start..], width, height, area);
             ImageRead::Size { width, height }
@@ -75,10 +72,7 @@ pub fn write(width: usize, height: usize, pixels: &[u8], out: &mut [u8]) -> Writ
             let start = header::length_of(width, height);
             let end = start + size::row_bytes(width) * height;
             if out.len() < end {
-                return Written::Refused(Refusal {
-                    number: verdict::AREA_SHORT,
-                    place: 0,
-                });
+                return Written::Refused(verdict::refusal_of(verdict::AREA_SHORT, 0));
             }
             header::write(width, height, out);
             pack::image(pixels, width, height, out, start);

@@ -1,5 +1,4 @@
 // Pixel bytes in memory: 0 or 1 each, in row order.
-use verdict::Refusal;
 use verdict::Verdict;
 ghost use mathlib.Core.Path.{_≡_};
 ghost use Prim.Native.Nat.{_+_, _*_, _/_, _≤_};
@@ -20,10 +19,7 @@ pub(crate) fn check_values(pixels: &[u8], width: usize, height: usize) -> Verdic
     let mut row = 0;
     while row < height {
         if row_exceeds(pixels, from, width) {
-            return Verdict::Refused(Refusal {
-                number: verdict::PIXEL_VALUE,
-                place: row,
-            });
+            return verdict::refused(verdict::PIXEL_VALUE, row);
         }
         from += width;
         row += 1;

@@ -1,6 +1,5 @@
 // The raster of an image file (01, The sheet): rows of (width + 7) / 8 bytes, the leftmost pixel the highest bit.
 use crate::size;
-use verdict::Refusal;
 use verdict::Verdict;
 ghost use mathlib.Core.Path.{_≡_};
 ghost use Prim.Native.Nat.{_-_, _*_, _^_, _≤_};
@@ -22,10 +21,7 @@ pub(crate) fn check_padding(raster: &[u8], width: usize, height: usize) -> Verdi
     let mut row = 0;
     while row < height {
         if raster[last] & mask != 0 {
-            return Verdict::Refused(Refusal {
-                number: verdict::PIXEL_VALUE,
-                place: row,
-            });
+            return verdict::refused(verdict::PIXEL_VALUE, row);
         }
         last += bytes;
         row += 1;

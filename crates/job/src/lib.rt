@@ -229,7 +229,7 @@ pub fn collect_core<'a>(job: Job, first: &'a [u8], second: &'a [u8], out: &mut [
     }
     if job.stage == sound::LOADED {
         return Emptied {
-            answer: Written::Refused(sound::refusal(verdict::NOT_STABLE)),
+            answer: Written::Refused(verdict::refusal_of(verdict::NOT_STABLE, 0)),
             job,
         };
     }

@@ -2,7 +2,6 @@
 use crate::area;
 use history::Job;
 use table::MAX_ELEMENTS;
-use verdict::Refusal;
 use verdict::Verdict;
 ghost use mathlib.Core.Bool.{not};
 ghost use mathlib.Core.Path.{_≡_};
@@ -11,7 +10,6 @@ ghost use lib.Dec.{eqb, ltb};
 ghost use Rattle.history.specs.State.{readyVerdict};
 ghost use Rattle.job.specs.Core.{at};
 ghost use Rattle.seq.specs.Lists.{any, all};
-ghost use Rattle.verdict.specs.Rules;
 
 pub(crate) const EMPTY: u8 = 0;
 
@@ -30,13 +28,6 @@ pub(crate) fn ready<'a>(job: Job, first: &'a [u8], second: &'a [u8]) -> Verdict
         return verdict::refused(verdict::NOTHING_LOADED, 0);
     }
     Verdict::Accepted
-}
-
-// Refused because of the state: place 0 always.
-pub(crate) fn refusal(number: u32) -> Refusal
-    ensures { λ r. ⌜ r ≡ Rules.refusal number 0 ⌝ }
-{
-    Refusal { number, place: 0 }
 }
 
 // 14, without its pass clause.

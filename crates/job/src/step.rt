@@ -97,7 +97,7 @@ fn settle(
     let removed = job.removed + removed;
     if exceeds(job.width * job.height, passes, added, removed) {
         return Stepped {
-            answer: Passed::Refused(sound::refusal(verdict::UNSOUND)),
+            answer: Passed::Refused(verdict::refusal_of(verdict::UNSOUND, 0)),
             job,
         };
     }

@@ -1,7 +1,6 @@
 // The table file, written.
 use crate::Table;
 use crate::number;
-use verdict::Refusal;
 use verdict::Written;
 ghost use mathlib.Core.List.{map};
 ghost use mathlib.Core.Path.{_≡_};
@@ -22,10 +21,7 @@ pub(crate) fn write_checked(table: Table, out: &mut [u8]) -> Written
 {
     let length = file_length(table);
     if out.len() < length {
-        return Written::Refused(Refusal {
-            number: verdict::AREA_SHORT,
-            place: 0,
-        });
+        return Written::Refused(verdict::refusal_of(verdict::AREA_SHORT, 0));
     }
     put_table(table, out);
     Written::Length(length)

@@ -1,6 +1,6 @@
 // What a check or a writer answers, and 01's refusal numbers by name.
 ghost use mathlib.Core.Path.{_≡_};
-ghost use Rattle.verdict.specs.Rules.{refusal};
+ghost use Rattle.verdict.specs.Rules;
 
 // A refusal: number and place.
 pub struct Refusal {
@@ -19,10 +19,16 @@ pub enum Written {
     Refused(Refusal),
 }
 
-pub fn refused(number: u32, place: usize) -> Verdict
-    ensures { λ r. ⌜ r ≡ Verdict.Refused (refusal number place) ⌝ }
+pub fn refusal_of(number: u32, place: usize) -> Refusal
+    ensures { λ r. ⌜ r ≡ Rules.refusal number place ⌝ }
 {
-    Verdict::Refused(Refusal { number, place })
+    Refusal { number, place }
+}
+
+pub fn refused(number: u32, place: usize) -> Verdict
+    ensures { λ r. ⌜ r ≡ Verdict.Refused (Rules.refusal number place) ⌝ }
+{
+    Verdict::Refused(refusal_of(number, place))
 }
 
 pub const NUMBER_ENDS: u32 = 1;

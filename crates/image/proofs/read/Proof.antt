@@ -26,8 +26,13 @@ enum-known-found c = search needs
 mul-if1 : tie.Need-mul-if1
 mul-if1 c = omega (arith, pixels-few (read-sides (bytes (c .before)) (layout-read (c .before))))
 
+refusal-of-requires : tie.Need-refusal-of-requires
+refusal-of-requires c κs = tt
+
 returns : tie.Need-returns
-returns c = read-short (bytes (c .before .before)) (layout-read (c .before .before)) _ (c .if1 .taken)
+returns c =
+    let d = c .before .before .before in
+    rw (c .refusal-of .ensures) (read-short (bytes d) (layout-read d) _ (c .before .if1 .taken))
 
 sub-image : tie.Need-sub-image
 sub-image c = read-start (bytes (c .before .before)) (layout-read (c .before .before))
@@ -64,6 +69,7 @@ read-spec =
     read-requires
     enum-known-found
     mul-if1
+    refusal-of-requires
     returns
     sub-image
     part-image-start

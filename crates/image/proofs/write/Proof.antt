@@ -66,8 +66,13 @@ add-end c =
     let d = c .before .before in
     omega (arith, few c, c .before .length-of .ensures, header-length (w d) (h d), decimal-short (w d), decimal-short (h d))
 
+refusal-of-requires : tie.Need-refusal-of-requires
+refusal-of-requires c κs = tt
+
 returns : tie.Need-returns
-returns c = write-short _ _ _ (accepted (c .before .before .before)) _ (end-is (c .before)) (c .if1 .taken)
+returns c =
+    let r = c .before .before in
+    rw (c .refusal-of .ensures) (write-short _ _ _ (accepted (r .before .before)) _ (end-is r) (c .before .if1 .taken))
 
 write-requires : tie.Need-write-requires
 write-requires c κs = search needs
@@ -105,6 +110,7 @@ write-spec =
     row-bytes-requires
     mul-end
     add-end
+    refusal-of-requires
     returns
     write-requires
     image-requires

@@ -19,14 +19,14 @@ returns c = unready _ _ (sym (c .before .before .before .ready .ensures) ∙ c .
 enum-told : tie.Need-enum-told
 enum-told c = search needs
 
-refusal-requires : tie.Need-refusal-requires
-refusal-requires c κs = tt
+refusal-of-requires : tie.Need-refusal-of-requires
+refusal-of-requires c κs = tt
 
 returns-2 : tie.Need-returns-2
 returns-2 c =
     let test = c .before in
     let told = test .before .before in
-    rw (c .refusal2 .ensures) (unsettled _ _ (sym (told .before .before .ready .ensures) ∙ told .enum-told .given .1) (test .if1 .taken))
+    rw (c .refusal-of .ensures) (unsettled _ _ (sym (told .before .before .ready .ensures) ∙ told .enum-told .given .1) (test .if1 .taken))
 
 image-requires : tie.Need-image-requires
 image-requires c κs =
@@ -80,7 +80,7 @@ collect-core-spec =
     enum-known-refusal
     returns
     enum-told
-    refusal-requires
+    refusal-of-requires
     returns-2
     image-requires
     write-requires

@@ -27,8 +27,11 @@ enum-told c = search needs
 mul-if1 : tie.Need-mul-if1
 mul-if1 c = omega (arith, checked-area _ _ _ (accepted c))
 
+refused-requires : tie.Need-refused-requires
+refused-requires c κs = tt
+
 returns-2 : tie.Need-returns-2
-returns-2 c = preview-short _ _ _ _ (accepted (c .before)) (c .if1 .taken)
+returns-2 c = rw (c .refused .ensures) (preview-short _ _ _ _ (accepted (c .before .before)) (c .before .if1 .taken))
 
 fill-requires : tie.Need-fill-requires
 fill-requires c κs = let m = checked-image _ _ _ (accepted (c .before .before)) in (m .wide, m .sized, m .binary, c .before .if1 .left)
@@ -48,6 +51,7 @@ preview-spec =
     returns
     enum-told
     mul-if1
+    refused-requires
     returns-2
     fill-requires
     same-length

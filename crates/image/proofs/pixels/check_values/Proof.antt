@@ -1,4 +1,5 @@
 -- `image::pixels::check_values` meets its contract. Assumes nothing.
+use mathlib.Core.Path.{_∙_}
 use Prim.Native.Nat.{_-_}
 use native.Mathlib.Omega.{arith}
 use borrow.Author.Needs.{needs}
@@ -18,8 +19,14 @@ loop-holds c = clean-none _ _
 row-exceeds-requires : tie.Need-row-exceeds-requires Inv-loop μ-loop
 row-exceeds-requires c κs = omega (arith, clean-fits (c .before .loop .inv) (c .loop-test .taken), c .before .before .before)
 
+refused-requires : tie.Need-refused-requires Inv-loop μ-loop
+refused-requires c κs = tt
+
 returns : tie.Need-returns Inv-loop μ-loop
-returns c = clean-found (c .before .before .before .loop .inv) (c .before .row-exceeds .ensures) (c .before .before .loop-test .taken) (c .if1 .taken)
+returns c =
+    let test = c .before .before .before in
+    c .refused .ensures
+    ∙ clean-found (test .before .loop .inv) (c .before .before .row-exceeds .ensures) (test .loop-test .taken) (c .before .if1 .taken)
 
 add-from : tie.Need-add-from Inv-loop μ-loop
 add-from c = omega (arith, clean-fits (c .before .before .before .loop .inv) (c .before .before .loop-test .taken), c .before .before .before .before .before)
@@ -44,6 +51,7 @@ check-values-spec =
     μ-loop
     loop-holds
     row-exceeds-requires
+    refused-requires
     returns
     add-from
     add-row

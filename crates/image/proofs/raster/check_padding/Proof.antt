@@ -1,4 +1,5 @@
 -- `image::raster::check_padding` meets its contract. Assumes nothing.
+use mathlib.Core.Path.{_∙_}
 use Prim.Native.Nat.{_-_}
 use native.Mathlib.Omega.{arith}
 use borrow.Author.Needs.{needs}
@@ -30,8 +31,13 @@ shared-slice-read-if1 c =
     let s = c .before .before .before .before .before .before in
     padded-within (c .before .before .loop .inv) (s .pre .0) (s .pre .1) (c .before .loop-test .taken)
 
+refused-requires : tie.Need-refused-requires Inv-loop μ-loop
+refused-requires c κs = tt
+
 returns : tie.Need-returns Inv-loop μ-loop
-returns c = padded-found (c .before .before .before .loop .inv) (c .before .before .loop-test .taken) (c .if1 .taken)
+returns c =
+    let test = c .before .before .before in
+    c .refused .ensures ∙ padded-found (test .before .loop .inv) (test .loop-test .taken) (c .before .if1 .taken)
 
 add-last : tie.Need-add-last Inv-loop μ-loop
 add-last c = omega (arith, shared-slice-read-if1 (c .before), row-bytes-fit (c .before .before .before .before .before .before .before .args .width))
@@ -59,6 +65,7 @@ check-padding-spec =
     sub-last
     loop-holds
     shared-slice-read-if1
+    refused-requires
     returns
     add-last
     add-row

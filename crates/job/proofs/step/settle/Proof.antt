@@ -51,15 +51,15 @@ mul-exceeds c = search needs
 exceeds-requires : tie.Need-exceeds-requires
 exceeds-requires c κs = tt
 
-refusal-requires : tie.Need-refusal-requires
-refusal-requires c κs = tt
+refusal-of-requires : tie.Need-refusal-of-requires
+refusal-of-requires c κs = tt
 
 returns-2 : tie.Need-returns-2
 returns-2 c =
     let clause = c .before in
     let test = clause .before .before .before .before .before in
     let start = test .before .before .before .before in
-    rw (c .refusal .ensures)
+    rw (c .refusal-of .ensures)
     (made-refused (start .pre .0) (start .pre .1) (test .if1 .left) (clause .before .exceeds .ensures) (clause .if2 .taken))
 
 put-requires-2 : tie.Need-put-requires-2
@@ -102,7 +102,7 @@ settle-spec =
     add-removed
     mul-exceeds
     exceeds-requires
-    refusal-requires
+    refusal-of-requires
     returns-2
     put-requires-2
     add-changed

@@ -13,8 +13,11 @@ use Rattle.table.proofs.writing.write_checked.Tie as tie
 file-length-requires : tie.Need-file-length-requires
 file-length-requires c κs = accepted-table _ (c .before .pre) .count-most
 
+refusal-of-requires : tie.Need-refusal-of-requires
+refusal-of-requires c κs = tt
+
 returns : tie.Need-returns
-returns c = short-output _ _ (c .before .before .before .pre) (omega arith)
+returns c = rw (c .refusal-of .ensures) (short-output _ _ (c .before .before .before .before .pre) (omega arith))
 
 put-table-requires : tie.Need-put-table-requires
 put-table-requires c κs = (accepted-table _ (c .before .before .before .before .pre) .count-most, omega arith)
@@ -31,4 +34,4 @@ returns-2 c =
 
 pub write-checked-spec : {M : Type 1} → statement M
 write-checked-spec =
-    tie.close (tie.spec file-length-requires returns put-table-requires same-length returns-2)
+    tie.close (tie.spec file-length-requires refusal-of-requires returns put-table-requires same-length returns-2)
