@@ -1,5 +1,5 @@
 -- A list of calls whose every step is computed, with what 01 says of it.
---     row c w       after the call c: refusal number, stage, passes, added, removed, black in view, history (0 empty, 1 held, 2 settled)
+--     row c w       after the call c: refusal number, stage, passes, added, removed, black in view, cover, history (0 empty, 1 held, 2 settled)
 --     trace cs w    the rows of a list of calls
 --     cases-met     one theorem, computed
 -- Assumes nothing.
@@ -10,18 +10,14 @@ use Prim.Native.Nat.{ℕ}
 use lib.ListN.{replicate}
 use Rattle.operator.specs.Image.{black}
 use Rattle.operator.specs.Samples.{ring}
+use Rattle.history.specs.Answers.{figuredCover}
 use Rattle.history.specs.Call.{Call, load, pass, run, collect, answerOf, refusalOf}
 use Rattle.history.specs.History.{History, empty, holds}
 use Rattle.history.specs.Lists.{Course, start, step}
 use Rattle.history.specs.Source.{fromFile}
-use Rattle.history.specs.View.{viewOf}
+use Rattle.history.specs.View.{viewOf, figuresOf}
 use Rattle.seq.specs.Lists.{sameList}
-use Rattle.verdict.specs.declared.Verdict.{Verdict}
-use Rattle.verdict.specs.declared.Verdict.the-variants.{Accepted, Refused}
-
-abbrev numberOf : Verdict → ℕ
-numberOf Accepted = 0
-numberOf (Refused r) = r .number
+use Rattle.verdict.specs.Answers.{numberOf}
 
 abbrev standing : History → ℕ
 standing empty = 0
@@ -36,6 +32,7 @@ row c w =
     ∷ v .state .job .added
     ∷ v .state .job .removed
     ∷ black (viewOf (v .state))
+    ∷ figuredCover (figuresOf (v .state))
     ∷ standing (v .history)
     ∷ []
 
@@ -64,17 +61,17 @@ calls =
 
 abbrev expected : List ℕ
 expected =
-    (16 ∷ 0 ∷ 0 ∷ 0 ∷ 0 ∷ 0 ∷ 0 ∷ [])
-    ++ (0 ∷ 1 ∷ 0 ∷ 0 ∷ 0 ∷ 1 ∷ 1 ∷ [])
-    ++ (15 ∷ 1 ∷ 0 ∷ 0 ∷ 0 ∷ 1 ∷ 1 ∷ [])
-    ++ (17 ∷ 1 ∷ 0 ∷ 0 ∷ 0 ∷ 1 ∷ 1 ∷ [])
-    ++ (0 ∷ 1 ∷ 1 ∷ 0 ∷ 1 ∷ 0 ∷ 1 ∷ [])
-    ++ (0 ∷ 2 ∷ 1 ∷ 0 ∷ 1 ∷ 0 ∷ 2 ∷ [])
-    ++ (0 ∷ 2 ∷ 1 ∷ 0 ∷ 1 ∷ 0 ∷ 2 ∷ [])
-    ++ (13 ∷ 2 ∷ 1 ∷ 0 ∷ 1 ∷ 0 ∷ 2 ∷ [])
-    ++ (0 ∷ 0 ∷ 0 ∷ 0 ∷ 0 ∷ 0 ∷ 0 ∷ [])
-    ++ (0 ∷ 1 ∷ 0 ∷ 0 ∷ 0 ∷ 1 ∷ 1 ∷ [])
-    ++ (0 ∷ 2 ∷ 1 ∷ 0 ∷ 1 ∷ 0 ∷ 2 ∷ [])
+    (16 ∷ 0 ∷ 0 ∷ 0 ∷ 0 ∷ 0 ∷ 0 ∷ 0 ∷ [])
+    ++ (0 ∷ 1 ∷ 0 ∷ 0 ∷ 0 ∷ 1 ∷ 40 ∷ 1 ∷ [])
+    ++ (15 ∷ 1 ∷ 0 ∷ 0 ∷ 0 ∷ 1 ∷ 40 ∷ 1 ∷ [])
+    ++ (17 ∷ 1 ∷ 0 ∷ 0 ∷ 0 ∷ 1 ∷ 40 ∷ 1 ∷ [])
+    ++ (0 ∷ 1 ∷ 1 ∷ 0 ∷ 1 ∷ 0 ∷ 0 ∷ 1 ∷ [])
+    ++ (0 ∷ 2 ∷ 1 ∷ 0 ∷ 1 ∷ 0 ∷ 0 ∷ 2 ∷ [])
+    ++ (0 ∷ 2 ∷ 1 ∷ 0 ∷ 1 ∷ 0 ∷ 0 ∷ 2 ∷ [])
+    ++ (13 ∷ 2 ∷ 1 ∷ 0 ∷ 1 ∷ 0 ∷ 0 ∷ 2 ∷ [])
+    ++ (0 ∷ 0 ∷ 0 ∷ 0 ∷ 0 ∷ 0 ∷ 0 ∷ 0 ∷ [])
+    ++ (0 ∷ 1 ∷ 0 ∷ 0 ∷ 0 ∷ 1 ∷ 40 ∷ 1 ∷ [])
+    ++ (0 ∷ 2 ∷ 1 ∷ 0 ∷ 1 ∷ 0 ∷ 0 ∷ 2 ∷ [])
 
 pub cases-met : sameList (trace calls (start (replicate 25 7) (replicate 25 7))) expected ≡ true
 unfolding Rattle.history.specs.Call.answerOf Rattle.history.specs.Call.stateOf Rattle.history.specs.Collect.collected
