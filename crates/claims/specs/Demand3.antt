@@ -17,7 +17,7 @@ use Prim.Native.Nat.{ℕ, _+_, _*_, _≤_, _<_}
 use lib.IntN.{subℕ}
 use lib.ListN.{length, getD, replicate, take}
 use Rattle.operator.specs.Image.{IsImage, black, added, removed, differsAt, exchange}
-use Rattle.operator.specs.Pass as filter
+use Rattle.operator.specs.Pass as operator
 use Rattle.history.proofs.Demand3.{demand-3}
 use Rattle.history.specs.declared.Figured.the-variants.{Figures}
 use Rattle.history.specs.declared.Passed.the-variants.{Stable}
@@ -118,7 +118,7 @@ module _ (cs : List Call) (a b : List ℕ) where
     steps-bound = demand-3 .after-list cs a b .agrees e h .bound
 
     -- the first image after as many passes as were accepted since the load
-    pub passes-accepted : viewOf (state cs a b) ≡ filter.passes (e .table) (e .width) (e .height) (course cs a b .tally) (firstOf e)
+    pub passes-accepted : viewOf (state cs a b) ≡ operator.passes (e .table) (e .width) (e .height) (course cs a b .tally) (firstOf e)
     passes-accepted = demand-3 .after-list cs a b .passed e h
 
     -- what each call answers
@@ -149,7 +149,7 @@ module _ (cs : List Call) (a b : List ℕ) where
         (r .passes, r .few, r .singly)
 
     -- a stable image that was loaded
-    module _ (s : filter.pass (e .table) (e .width) (e .height) (firstOf e) ≡ firstOf e) where
+    module _ (s : operator.pass (e .table) (e .width) (e .height) (firstOf e) ≡ firstOf e) where
       pub rest-view : viewOf (state cs a b) ≡ firstOf e
       rest-view = demand-3 .rests cs a b e h s .view
 

@@ -17,7 +17,7 @@ use native.Mathlib.Omega.{arith}
 use borrow.Author.Tests.{le-ltb}
 use lib.ListN.{length}
 use Rattle.operator.specs.Image.{IsImage, added, removed, differs}
-use Rattle.operator.specs.Pass as filter
+use Rattle.operator.specs.Pass as operator
 use Rattle.operator.proofs.Counts.{all-counts, differs-equal}
 use Rattle.history.specs.declared.Job.{Job}
 use Rattle.history.specs.declared.Passed.the-variants as answer
@@ -94,7 +94,7 @@ module _ {s : State} {e : Entry} {n : ℕ} (r : Held s e n) where
       stands q d = quiet q d (rw (ready-held r, next-image, r .shown, d, r .job, q))
 
   -- one more accepted pass, whether or not it changes the image
-  one-more : filter.passes (e .table) (e .width) (e .height) (n + 1) (firstOf e) ≡ nextOf e
+  one-more : operator.passes (e .table) (e .width) (e .height) (n + 1) (firstOf e) ≡ nextOf e
   unfolding nextOf
   one-more = rw (add-one, r .tallied)
 

@@ -9,7 +9,7 @@ use mathlib.Core.Path.{_≡_}
 use Prim.Native.Nat.{ℕ, _*_, _≤_}
 use lib.ListN.{length}
 use Rattle.operator.specs.Image.{IsImage, added, removed}
-use Rattle.operator.specs.Pass as filter
+use Rattle.operator.specs.Pass as operator
 use Rattle.history.specs.declared.Job.{Job}
 use Rattle.history.specs.History.{Entry, History, empty, holds}
 use Rattle.history.specs.Lists.{Course, firstOf, overSteps}
@@ -46,9 +46,9 @@ pub record Held (s : State) (e : Entry) (n : ℕ) : Type 0 where
   pub shown : image s ≡ e .last
   pub begun : IsImage (e .width) (e .height) (firstOf e)
   pub row : Row (e .table) (e .width) (e .height) (e .last) (e .earlier)
-  pub stable : e .settled ≡ true → filter.Stable (e .table) (e .width) (e .height) (e .last)
+  pub stable : e .settled ≡ true → operator.Stable (e .table) (e .width) (e .height) (e .last)
   -- and the first image after all accepted passes, quiet ones too
-  pub tallied : filter.passes (e .table) (e .width) (e .height) n (firstOf e) ≡ e .last
+  pub tallied : operator.passes (e .table) (e .width) (e .height) n (firstOf e) ≡ e .last
 
 abbrev pub RelatedTo : State → History → ℕ → Type 0
 RelatedTo s empty n = s .job ≡ emptyJob

@@ -18,7 +18,7 @@ use Prim.Native.Nat.{ℕ, _+_, _*_, _≤_}
 use lib.ListN.{length, replicate, take}
 use Rattle.operator.specs.Heijmans.{modified}
 use Rattle.operator.specs.Image.{IsImage, black, added, removed, differsAt, exchange, Below}
-use Rattle.operator.specs.Pass as filter
+use Rattle.operator.specs.Pass as operator
 use Rattle.history.specs.declared.Passed.the-variants.{Changed, Stable}
 use Rattle.history.specs.Answered.{answeredBy}
 use Rattle.history.specs.Call.{Call, load, pass, run, collect, passed, collected, answerOf, stateOf, refusalOf}
@@ -79,7 +79,7 @@ pub record AfterList (n : Lengths) (w : Course) : Type 0 where
   pub operated : (e : Entry) → w .history ≡ holds e → Operated (e .table) (e .width) (e .height) (w .state)
   -- view gives the first image after as many passes as were accepted since the load, quiet ones too
   pub passed : (e : Entry) → w .history ≡ holds e
-      → viewOf (w .state) ≡ filter.passes (e .table) (e .width) (e .height) (w .tally) (firstOf e)
+      → viewOf (w .state) ≡ operator.passes (e .table) (e .width) (e .height) (w .tally) (firstOf e)
   pub run-as-passes : (e : Entry) → w .history ≡ holds e → RunAsPasses w e
   -- the next call, whatever it is, answers what the history says, and leaves that in its output
   pub answered : (c : Call) → answerOf c (w .state) ≡ answeredBy c n (w .history)
@@ -129,7 +129,7 @@ pub record Demand3 : Type 0 where
       → Below (firstOf e) (firstOf e') → Below (viewOf (played cs a b .state)) (viewOf (played cs' a' b' .state))
   -- a stable image that was loaded
   pub rests : (cs : List Call) (a b : List ℕ) (e : Entry) → played cs a b .history ≡ holds e
-      → filter.Stable (e .table) (e .width) (e .height) (firstOf e) → Rests (firstOf e) (played cs a b .state)
+      → operator.Stable (e .table) (e .width) (e .height) (firstOf e) → Rests (firstOf e) (played cs a b .state)
   -- what an accepted collect wrote, loaded again with its table
   pub reloaded : (cs : List Call) (a b out : List ℕ) (e : Entry) (m : ℕ) (after : List ℕ) → played cs a b .history ≡ holds e
       → answerOf (collect out) (played cs a b .state) ≡ collected (written.Length m) after → Reloads (step (collect out) (played cs a b)) e (take m after)

@@ -17,7 +17,7 @@ use Prim.Native.Nat.{ℕ, zero, suc, _+_, _*_}
 use lib.Dec.{ltb}
 use lib.ListN.{length}
 use Rattle.operator.specs.Image.{differs}
-use Rattle.operator.specs.Pass as filter
+use Rattle.operator.specs.Pass as operator
 use Rattle.history.specs.Call.{Call, load, pass, run, view, figures, collect}
 use Rattle.history.specs.Load.{areasRule}
 use Rattle.history.specs.Source.{Source, sourceVerdict, sourceWidth, sourceHeight, sourcePixels}
@@ -50,7 +50,7 @@ unfoldable pub entered : Table → Source → Entry
 entered t x = record { table = t; width = sourceWidth x; height = sourceHeight x; last = sourcePixels x; earlier = []; settled = false }
 
 unfoldable pub nextOf : Entry → List ℕ
-nextOf e = filter.pass (e .table) (e .width) (e .height) (e .last)
+nextOf e = operator.pass (e .table) (e .width) (e .height) (e .last)
 
 unfoldable pub joined : Entry → Entry
 joined e =

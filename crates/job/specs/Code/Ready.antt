@@ -5,7 +5,7 @@
 use mathlib.Core.List.{List}
 use mathlib.Core.Path.{_≡_}
 use Prim.Native.Nat.{ℕ}
-use Rattle.operator.specs.Image as filter
+use Rattle.operator.specs.Image as operator
 use Rattle.history.specs.Pass.{Outcome, nextImage}
 use Rattle.history.specs.State as state
 use Rattle.history.specs.State.{State}
@@ -15,8 +15,8 @@ use Rattle.job.specs.Core.{stepped}
 -- what the operator made of the present image: the next image and its counts
 pub record Computed (s : State) (next : List ℕ) (a d : ℕ) : Type 0 where
   pub image : next ≡ nextImage s
-  pub added : a ≡ filter.added (state.image s) (nextImage s)
-  pub removed : d ≡ filter.removed (state.image s) (nextImage s)
+  pub added : a ≡ operator.added (state.image s) (nextImage s)
+  pub removed : d ≡ operator.removed (state.image s) (nextImage s)
 
 -- a function handed back r and left a and b in the areas, as the outcome says
 abbrev pub Made : Outcome → Stepped → List ℕ → List ℕ → Type 0
