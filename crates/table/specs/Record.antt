@@ -1,12 +1,19 @@
 -- The verdict on a table record (01: 3, 4, 6, 5, 7).
---     maxElements       the most elements of a table, and the element places of a record
---     element t k       element place k, from 0
---     masks t           the elements
---     persistents t     the persistent elements (01: the keeper)
---     disjointFrom t k  the lowest earlier element that shares no position with element k
---     missing t k       some persistent element is not persistent for element k
---     recordRules t     the rules, in their order
---     recordVerdict t   accepted, or number and place
+--     maxElements         the most elements of a table, and the element places of a record
+--     element t k         element place k, from 0
+--     masks t             the elements
+--     persistents t       the persistent elements (01: the keeper)
+--     zeroTable           every field zero
+--     badCount t          rule 3
+--     notRising t k       element k is not above the one before
+--     badElement t k      rule 4 at an element place below the count; badPlace t k: at any place of a record
+--     badPersistent t     rule 6
+--     disjointFrom t k    rule 5: the lowest earlier element that shares no position with element k
+--     missing t k         rule 7: some persistent element is not persistent for element k
+--     countRule t, persistentRule t, meetRule t, persistRule t     3, 6, 5, 7 with their places
+--     placesRule t        4 on a record; elementRule t k: on one element of a file
+--     recordRules t       the rules, in their order
+--     recordVerdict t     accepted, or number and place
 -- Assumes nothing.
 use mathlib.Core.Bool.{Bool, not, cond, _&&_, _||_}
 use mathlib.Core.List.{List, [], _∷_}
