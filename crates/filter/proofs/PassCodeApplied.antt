@@ -28,7 +28,7 @@ use Rattle.filter.specs.Applied.{passVerdict, filtered, filteredArea, sw
 use Rattle.operator.specs.Image.{IsImage}
 use Rattle.filter.specs.Code.OpeningMap.{openMap}
 use Rattle.operator.specs.Pass.{pass}
-use Rattle.filter.specs.Code.Walk.{walked, Tallied}
+use Rattle.filter.specs.Code.Walk.{walked, Counted}
 use Rattle.filter.proofs.PassCodeChecks.{accepted-ranged}
 use Rattle.filter.proofs.PassCodeExact.{walked-switched, steps-added, steps-removed, switched-pass}
 use Rattle.filter.proofs.PreviewLaws.{checked-image}
@@ -89,7 +89,7 @@ module _ (t : Table) (w h : ℕ) (px d : List ℕ) where
   again-refused e = rw e (refl, refl)
 
   pub again-filled : againVerdict t w h px (length d) ≡ Accepted → {after : List ℕ} {a b : ℕ}
-      → after ≡ over (walked (masks t) w h px (openMap t w h px)) d → Tallied (masks t) w h px (openMap t w h px) (w * h) a b → Done (filtering.Counts a b) after
+      → after ≡ over (walked (masks t) w h px (openMap t w h px)) d → Counted (masks t) w h px (openMap t w h px) (w * h) a b → Done (filtering.Counts a b) after
   unfolding again againArea
   again-filled ok e s =
       let m = fits t w h px (length d) ok .image in

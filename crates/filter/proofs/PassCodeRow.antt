@@ -26,8 +26,8 @@ use Rattle.seq.proofs.Loops.{sweep-none, sweep-more, sweep-end, sweep-join, swe
 use Rattle.seq.proofs.Tab.{length-tab}
 use Rattle.verdict.specs.Writer.{over}
 use Rattle.operator.specs.Image.{pixel}
-use Rattle.filter.specs.Code.Walk.{Opened, Copied, walkedAt, walked, Tallied}
-use Rattle.filter.proofs.PassCodeWalk.{opened-stays, tally-none, tally-more}
+use Rattle.filter.specs.Code.Walk.{Opened, Copied, walkedAt, walked, Counted}
+use Rattle.filter.proofs.PassCodeWalk.{opened-stays, counted-none, counted-more}
 
 module _ {codes : List ℕ} {s : ℕ} where
   pub opened-none : (lo : ℕ) → Opened codes s lo lo
@@ -47,11 +47,11 @@ module _ {codes : List ℕ} {s : ℕ} where
 
 pub record Judged (es : List ℕ) (w h : ℕ) (px codes : List ℕ) (r : ℕ) (d l : List ℕ) (n a b : ℕ) : Type 0 where
   pub swept : Swept (λ j. walkedAt es w h px codes r (j - r * w)) d l (r * w) (r * w + n)
-  pub tallied : Tallied es w h px codes (r * w + n) a b
+  pub counted : Counted es w h px codes (r * w + n) a b
 
 module _ (es : List ℕ) (w h : ℕ) (px codes : List ℕ) (r : ℕ) where
-  pub judged-none : {a b : ℕ} (d : List ℕ) → Tallied es w h px codes (r * w) a b → Judged es w h px codes r d d 0 a b
-  judged-none d t = record { swept = sweep-end _ (sweep-none _ d (r * w)) (sym (add-zero (r * w))); tallied = rw (add-zero (r * w)) t }
+  pub judged-none : {a b : ℕ} (d : List ℕ) → Counted es w h px codes (r * w) a b → Judged es w h px codes r d d 0 a b
+  judged-none d t = record { swept = sweep-end _ (sweep-none _ d (r * w)) (sym (add-zero (r * w))); counted = rw (add-zero (r * w)) t }
 
   -- an opened pixel stays
   stays : (c : ℕ) → (pixel w codes r c ≡ 0 → ⊥) → pixel w px r c ≡ walkedAt es w h px codes r c
@@ -63,15 +63,15 @@ module _ (es : List ℕ) (w h : ℕ) (px codes : List ℕ) (r : ℕ) where
       → Judged es w h px codes r d (set l (r * w + n) v) (n + 1) (a + x) (b + y)
   judged-more {d} {l} {n} {a} {b} {x} {y} {v} s i k e f g = record {
     swept = sweep-more (r * w + (n + 1)) (s .swept) (omega arith) (omega arith) (e ∙ ap (walkedAt es w h px codes r) (omega arith)) (omega arith);
-    tallied = tally-more es w h px codes r (s .tallied) i e f g;
+    counted = counted-more es w h px codes r (s .counted) i e f g;
   }
 
   -- opened pixels are not counted
-  pass-by : (n m : ℕ) {a b : ℕ} → Tallied es w h px codes (r * w + n) a b → n + m ≤ w → Opened codes (r * w) n (n + m) → Tallied es w h px codes (r * w + (n + m)) a b
+  pass-by : (n m : ℕ) {a b : ℕ} → Counted es w h px codes (r * w + n) a b → n + m ≤ w → Opened codes (r * w) n (n + m) → Counted es w h px codes (r * w + (n + m)) a b
   pass-by n zero t i o = rw (add-zero n) t
   pass-by n (suc m) {a} {b} t i o =
       let q = stays (n + m) (o .coded (n + m) (omega arith) (omega arith)) in
-      let u = tally-more es w h px codes r {x = 0} {y = 0} (pass-by n m t (omega arith) (record { coded = λ c j k. o .coded c j (omega arith) })) (omega arith) q
+      let u = counted-more es w h px codes r {x = 0} {y = 0} (pass-by n m t (omega arith) (record { coded = λ c j k. o .coded c j (omega arith) })) (omega arith) q
       (apart (pixel w px r (n + m)) 0 1 (omega arith)) (apart (pixel w px r (n + m)) 1 0 (omega arith)) in
       rw (add-suc n m, ← add-one, ← add-zero a, ← add-zero b) u
     where
@@ -86,9 +86,9 @@ module _ (es : List ℕ) (w h : ℕ) (px codes : List ℕ) (r : ℕ) where
       → Judged es w h px codes r d l m a b
   judged-skip {d} {l} {n} {m} {a} {b} s k i j o = record {
     swept = sweep-join (s .swept) kept (omega arith) (omega arith) (λ x p q. refl);
-    tallied =
+    counted =
         let e : n + (m - n) ≡ m = omega arith in
-        subst (λ (x : ℕ). Tallied es w h px codes (r * w + x) a b) e (pass-by n (m - n) (s .tallied) (omega arith) (subst (Opened codes (r * w) n) (sym e) o));
+        subst (λ (x : ℕ). Counted es w h px codes (r * w + x) a b) e (pass-by n (m - n) (s .counted) (omega arith) (subst (Opened codes (r * w) n) (sym e) o));
   }
     where
       same : (x : ℕ) → r * w + n ≤ x → x < r * w + m → getD l x 0 ≡ walkedAt es w h px codes r (x - r * w)
@@ -106,21 +106,21 @@ module _ (es : List ℕ) (w h : ℕ) (px codes : List ℕ) (r : ℕ) where
 pub record Walked (es : List ℕ) (w h : ℕ) (px codes d l : List ℕ) (n a b : ℕ) : Type 0 where
   pub within : n ≤ h
   pub swept : Swept (grid w (walkedAt es w h px codes)) d l 0 (n * w)
-  pub tallied : Tallied es w h px codes (n * w) a b
+  pub counted : Counted es w h px codes (n * w) a b
 
 module _ (es : List ℕ) (w h : ℕ) (px codes : List ℕ) where
   abbrev g : ℕ → ℕ → ℕ
   g = walkedAt es w h px codes
 
   pub walked-none : (d : List ℕ) → Walked es w h px codes d d 0 0 0
-  walked-none d = record { within = zero-le; swept = sweep-end _ (sweep-none _ d 0) (sym (zero-mul w)); tallied = rw (zero-mul w) (tally-none es w h px codes) }
+  walked-none d = record { within = zero-le; swept = sweep-end _ (sweep-none _ d 0) (sym (zero-mul w)); counted = rw (zero-mul w) (counted-none es w h px codes) }
 
   pub walked-more : {d l m : List ℕ} {r a b x y : ℕ} → Walked es w h px codes d l r a b → r < h → Swept (λ j. g r (j - r * w)) l m (r * w) (r * w + w)
-      → Tallied es w h px codes (r * w + w) x y → Walked es w h px codes d m (r + 1) x y
+      → Counted es w h px codes (r * w + w) x y → Walked es w h px codes d m (r + 1) x y
   walked-more {r = r} s i t u = record {
     within = omega arith;
     swept = sweep-end _ (sweep-join (s .swept) t zero-le (omega arith) cell) (next-row r w);
-    tallied = rw (next-row r w) at u;
+    counted = rw (next-row r w) at u;
   }
     where
       cell : (j : ℕ) → r * w ≤ j → j < r * w + w → g r (j - r * w) ≡ grid w g j
@@ -136,11 +136,11 @@ module _ (es : List ℕ) (w h : ℕ) (px codes : List ℕ) where
     pub walked-room : r < h → w * h ≤ length z → r * w + w ≤ length l
     walked-room i e = omega (arith, row-below w i, next-row r w, s .swept .long, k .long)
 
-    pub walked-all : h ≤ r → w * h ≤ length z → (l ≡ over (walked es w h px codes) z) × Tallied es w h px codes (w * h) a b
+    pub walked-all : h ≤ r → w * h ≤ length z → (l ≡ over (walked es w h px codes) z) × Counted es w h px codes (w * h) a b
     unfolding over walked
     walked-all i e = (
       sweep-front whole e ∙ ap (λ (x : ℕ). tab (grid w g) (w * h) ++ drop x z) (sym (length-tab (grid w g) (w * h))),
-      subst (λ (x : ℕ). Tallied es w h px codes x a b) last (s .tallied),
+      subst (λ (x : ℕ). Counted es w h px codes x a b) last (s .counted),
     )
       where
         last : r * w ≡ w * h

@@ -1,6 +1,6 @@
 -- A walk over pixels and opening map.
 --     opened-stays, matched-turns, unmatched-stays      a pixel afterwards, by the tests that the code makes
---     tally-none, tally-more, tally-le     counting: the start, one pixel more, and that it is at most the pixels
+--     counted-none, counted-more, counted-le     counting: the start, one pixel more, and that it is at most the pixels
 -- Assumes nothing.
 use mathlib.Core.Bool.{Bool, true, false, cond, _&&_}
 use mathlib.Core.List.{List}
@@ -17,7 +17,7 @@ use Rattle.seq.proofs.Lists.{count-le}
 use Rattle.seq.proofs.Tab.{length-upTo, count-upTo}
 use Rattle.filter.specs.Code.Elements.{matched}
 use Rattle.operator.specs.Image.{pixel}
-use Rattle.filter.specs.Code.Walk.{turns, walkedAt, steps, Tallied}
+use Rattle.filter.specs.Code.Walk.{turns, walkedAt, steps, Counted}
 use Rattle.operator.specs.Window.{window}
 
 module _ (es : List ℕ) (w h : ℕ) (codes : List ℕ) (r c v : ℕ) where
@@ -40,9 +40,9 @@ module _ (es : List ℕ) (w h : ℕ) (px codes : List ℕ) where
   steps-le u v n =
       omega (arith, count-le (λ i. eqb (getD px i 0) u && eqb (walkedAt es w h px codes (i / w) (i % w)) v) (upTo n), length-upTo n)
 
-  pub tally-none : Tallied es w h px codes 0 0 0
+  pub counted-none : Counted es w h px codes 0 0 0
   unfolding steps upTo
-  tally-none = record { added = refl; removed = refl }
+  counted-none = record { added = refl; removed = refl }
 
   step-more : (u v r c : ℕ) → c < w
       → steps es w h px codes u v (r * w + (c + 1)) ≡ steps es w h px codes u v (r * w + c) + one (eqb (pixel w px r c) u && eqb (walkedAt es w h px codes r c) v)
@@ -58,14 +58,14 @@ module _ (es : List ℕ) (w h : ℕ) (px codes : List ℕ) where
       next : r * w + (c + 1) ≡ suc (r * w + c)
       next = omega arith
 
-  pub tally-more : (r : ℕ) {c a d x y v : ℕ} → Tallied es w h px codes (r * w + c) a d → c < w → v ≡ walkedAt es w h px codes r c
+  pub counted-more : (r : ℕ) {c a d x y v : ℕ} → Counted es w h px codes (r * w + c) a d → c < w → v ≡ walkedAt es w h px codes r c
       → x ≡ one (eqb (pixel w px r c) 0 && eqb v 1) → y ≡ one (eqb (pixel w px r c) 1 && eqb v 0)
-      → Tallied es w h px codes (r * w + (c + 1)) (a + x) (d + y)
-  tally-more r {c} {a} {d} {x} {y} {v} s l e f g = record {
+      → Counted es w h px codes (r * w + (c + 1)) (a + x) (d + y)
+  counted-more r {c} {a} {d} {x} {y} {v} s l e f g = record {
     added = omega (arith, step-more 0 1 r c l, s .added, f ∙ ap (λ (z : ℕ). one (eqb (pixel w px r c) 0 && eqb z 1)) e);
     removed = omega (arith, step-more 1 0 r c l, s .removed, g ∙ ap (λ (z : ℕ). one (eqb (pixel w px r c) 1 && eqb z 0)) e);
   }
 
-pub tally-le : {es : List ℕ} {w h : ℕ} {px codes : List ℕ} {n a d : ℕ} → Tallied es w h px codes n a d → (a ≤ n) × (d ≤ n)
-tally-le {es} {w} {h} {px} {codes} {n} t =
+pub counted-le : {es : List ℕ} {w h : ℕ} {px codes : List ℕ} {n a d : ℕ} → Counted es w h px codes n a d → (a ≤ n) × (d ≤ n)
+counted-le {es} {w} {h} {px} {codes} {n} t =
     (omega (arith, t .added, steps-le es w h px codes 0 1 n), omega (arith, t .removed, steps-le es w h px codes 1 0 n))

@@ -2,7 +2,7 @@
 use crate::Filtered;
 use crate::opening;
 use crate::walk;
-use crate::walk::Tally;
+use crate::walk::Changes;
 use image::size::MAX_PIXELS;
 use table::MAX_ELEMENTS;
 use table::Table;
@@ -15,7 +15,7 @@ ghost use lib.ListN.{length};
 ghost use Rattle.filter.specs.Applied.{filteredArea, againVerdict, againArea, ranged};
 ghost use Rattle.operator.specs.Image.{IsImage};
 ghost use Rattle.filter.specs.Code.OpeningMap.{openMap};
-ghost use Rattle.filter.specs.Code.Walk.{walked, Tallied};
+ghost use Rattle.filter.specs.Code.Walk.{walked, Counted};
 ghost use Rattle.image.specs.Size.{maxSide};
 ghost use Rattle.seq.specs.Lists.{all};
 ghost use Rattle.table.specs.Mask.{validMask};
@@ -42,10 +42,10 @@ pub fn again(table: Table, width: usize, height: usize, pixels: &[u8], next: &mu
     if let Verdict::Refused(refusal) = checked {
         return Filtered::Refused(refusal);
     }
-    let tally = filtered(table, width, height, pixels, next);
+    let changes = filtered(table, width, height, pixels, next);
     Filtered::Counts {
-        added: tally.added,
-        removed: tally.removed,
+        added: changes.added,
+        removed: changes.removed,
     }
 }
 
@@ -66,11 +66,11 @@ fn check(table: Table, width: usize, height: usize, pixels: &[u8], area: usize) 
     Verdict::Accepted
 }
 
-fn filtered(table: Table, width: usize, height: usize, pixels: &[u8], next: &mut [u8]) -> Tally
+fn filtered(table: Table, width: usize, height: usize, pixels: &[u8], next: &mut [u8]) -> Changes
     requires { ⌜ (ranged table ≡ true) × IsImage width height (now pixels) × (width ≤ maxSide) × (height ≤ maxSide) × (width * height ≤ length (now next)) ⌝ }
     ensures { λ r. ⌜ (now (next .exit)
         ≡ over (walked (masks table) width height (now (pixels .entry)) (openMap table width height (now (pixels .entry)))) (now (next .entry)))
-        × Tallied (masks table) width height (now (pixels .entry)) (openMap table width height (now (pixels .entry))) (width * height) (r .added)
+        × Counted (masks table) width height (now (pixels .entry)) (openMap table width height (now (pixels .entry))) (width * height) (r .added)
         (r .removed) ⌝ }
 {
     let count = table.count;

@@ -10,7 +10,7 @@ ghost use lib.Dec.{eqb};
 ghost use lib.ListN.{length};
 ghost use Rattle.filter.specs.Code.Elements.{Shared};
 ghost use Rattle.operator.specs.Image.{pixel};
-ghost use Rattle.filter.specs.Code.Walk.{Walkable, Opened, Copied, turns, walkedAt, walked, Tallied};
+ghost use Rattle.filter.specs.Code.Walk.{Walkable, Opened, Copied, turns, walkedAt, walked, Counted};
 ghost use Rattle.operator.specs.Window.{siteRow, siteCol};
 ghost use Rattle.seq.specs.Lists.{all, one};
 ghost use Rattle.seq.specs.Loops.{Swept};
@@ -28,7 +28,7 @@ const NEITHER: u8 = 0;
 const OPENED_BLACK: u8 = 2;
 
 // The pixels that went from 0 to 1 and from 1 to 0.
-pub(crate) struct Tally {
+pub(crate) struct Changes {
     pub added: usize,
     pub removed: usize,
 }
@@ -40,20 +40,20 @@ pub(crate) fn walk(
     pixels: &[u8],
     map: &[u8],
     next: &mut [u8],
-) -> Tally
+) -> Changes
     requires { ⌜ Walkable (now elements) width height (now pixels) (now map) × (width * height ≤ length (now next)) ⌝ }
     ensures { λ r. ⌜ (now (next .exit) ≡ over (walked (now (elements .entry)) width height (now (pixels .entry)) (now (map .entry))) (now (next .entry)))
-        × Tallied (now (elements .entry)) width height (now (pixels .entry)) (now (map .entry)) (width * height) (r .added) (r .removed) ⌝ }
+        × Counted (now (elements .entry)) width height (now (pixels .entry)) (now (map .entry)) (width * height) (r .added) (r .removed) ⌝ }
 {
     opening::copy(pixels, 0, next, 0, width * height);
     let shared = elements::shared_position(elements);
-    let mut tally = Tally {
+    let mut changes = Changes {
         added: 0,
         removed: 0,
     };
     let mut row = 0;
     while row < height {
-        tally = walk_row(
+        changes = walk_row(
             elements,
             shared,
             width,
@@ -62,11 +62,11 @@ pub(crate) fn walk(
             map,
             row,
             next,
-            tally,
+            changes,
         );
         row += 1;
     }
-    tally
+    changes
 }
 
 // An opened pixel never changes, so only others are judged. The row of `next` holds the pixels as they were.
@@ -79,14 +79,14 @@ fn walk_row(
     map: &[u8],
     row: usize,
     next: &mut [u8],
-    before: Tally,
-) -> Tally
+    before: Changes,
+) -> Changes
     requires { ⌜ Walkable (now elements) width height (now pixels) (now map) × (row < height) × (row * width + width ≤ length (now next))
         × Shared (now elements) shared × Copied (now pixels) (now next) (row * width) (row * width + width)
-        × Tallied (now elements) width height (now pixels) (now map) (row * width) (before .added) (before .removed) ⌝ }
+        × Counted (now elements) width height (now pixels) (now map) (row * width) (before .added) (before .removed) ⌝ }
     ensures { λ r. ⌜ Swept (λ j. walkedAt (now (elements .entry)) width height (now (pixels .entry)) (now (map .entry)) row (j - row * width))
         (now (next .entry)) (now (next .exit)) (row * width) (row * width + width)
-        × Tallied (now (elements .entry)) width height (now (pixels .entry)) (now (map .entry)) (row * width + width) (r .added) (r .removed) ⌝ }
+        × Counted (now (elements .entry)) width height (now (pixels .entry)) (now (map .entry)) (row * width + width) (r .added) (r .removed) ⌝ }
 {
     let start = row * width;
     if is_opened(map, start, width) {
@@ -106,7 +106,7 @@ fn walk_row(
         }
         col += 1;
     }
-    Tally { added, removed }
+    Changes { added, removed }
 }
 
 // Whether every pixel of the row that begins at `start` is opened: then the least value of the map there is not 0.

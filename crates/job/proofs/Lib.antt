@@ -3,7 +3,7 @@ pub mod Counts
 pub mod Areas
 pub mod Inconsistent
 pub mod Changes
-pub mod Settled
+pub mod Concluded
 pub mod Filtered
 pub mod Runs
 pub mod Balance

@@ -21,7 +21,7 @@ use Rattle.history.specs.View.{viewOf, cover, figuresOf}
 use Rattle.history.specs.Sound.{Ready}
 use Rattle.history.proofs.Ready.{ready-image}
 use Rattle.image.specs.Size.{maxPixels}
-use Rattle.job.proofs.Settled.{ready-small}
+use Rattle.job.proofs.Concluded.{ready-small}
 use Rattle.seq.proofs.Lists.{count-le}
 use Rattle.verdict.specs.declared.Refusal.{Refusal}
 use Rattle.verdict.specs.declared.Verdict.the-variants.{Accepted, Refused}

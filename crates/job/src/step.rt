@@ -50,7 +50,7 @@ pub(crate) fn advance(job: Job, first: &mut [u8], second: &mut [u8]) -> Stepped
         &mut next,
     );
     match made {
-        Filtered::Counts { added, removed } => settle(
+        Filtered::Counts { added, removed } => conclude(
             job,
             &next[..pixels],
             added,
@@ -72,7 +72,7 @@ fn blank() -> [u8; MAX_PIXELS] {
 }
 
 // The record and the areas after a pass, from the next image and its counts.
-fn settle(
+fn conclude(
     job: Job,
     next: &[u8],
     added: usize,

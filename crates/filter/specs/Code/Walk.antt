@@ -6,7 +6,7 @@
 --                                    code, which is 2 − v, at all its offsets
 --     walkedAt es w h px codes r c   the pixel afterwards; walked es w h px codes: the image
 --     steps es w h px codes u v n    how many of the first n pixels go from u to v
---     Tallied es w h px codes n a d  of the first n pixels, a go from 0 to 1 and d from 1 to 0
+--     Counted es w h px codes n a d  of the first n pixels, a go from 0 to 1 and d from 1 to 0
 -- Assumes nothing.
 use mathlib.Core.Bool.{Bool, true, cond, _&&_}
 use mathlib.Core.List.{List}
@@ -44,6 +44,6 @@ walked es w h px codes = tab (λ i. walkedAt es w h px codes (i / w) (i % w)) (w
 unfoldable pub steps : List ℕ → ℕ → ℕ → List ℕ → List ℕ → ℕ → ℕ → ℕ → ℕ
 steps es w h px codes u v n = count (λ i. eqb (getD px i 0) u && eqb (walkedAt es w h px codes (i / w) (i % w)) v) (upTo n)
 
-pub record Tallied (es : List ℕ) (w h : ℕ) (px codes : List ℕ) (n a d : ℕ) : Type 0 where
+pub record Counted (es : List ℕ) (w h : ℕ) (px codes : List ℕ) (n a d : ℕ) : Type 0 where
   pub added : a ≡ steps es w h px codes 0 1 n
   pub removed : d ≡ steps es w h px codes 1 0 n

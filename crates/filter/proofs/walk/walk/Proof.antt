@@ -8,11 +8,11 @@ use Rattle.filter.proofs.walk.walk.Statement.{statement}
 use Rattle.filter.proofs.walk.walk.Tie as tie
 
 abbrev Inv-loop : tie.InvT-loop
-Inv-loop elements width height pixels map next₀ shared tally₀ row₀ next tally row =
-    Walked elements width height pixels map next₀ next row (tally .added) (tally .removed)
+Inv-loop elements width height pixels map next₀ shared changes₀ row₀ next changes row =
+    Walked elements width height pixels map next₀ next row (changes .added) (changes .removed)
 
 abbrev μ-loop : tie.MeasureT-loop
-μ-loop elements width height pixels map next₀ shared tally₀ row₀ next tally row = height - row
+μ-loop elements width height pixels map next₀ shared changes₀ row₀ next changes row = height - row
 
 mul-copy : tie.Need-mul-copy Inv-loop μ-loop
 mul-copy c = search needs
@@ -32,7 +32,7 @@ walk-row-requires c κs =
     let k = c .before .before .before .before .before .before .copy .ensures in
     let s = c .before .before .loop .inv in
     let t = c .before .loop-test .taken in
-    (p .0, t, walked-room _ _ _ _ _ k s t (p .1), c .before .before .before .shared-position .ensures, walked-copied _ _ _ _ _ k s t, s .tallied)
+    (p .0, t, walked-room _ _ _ _ _ k s t (p .1), c .before .before .before .shared-position .ensures, walked-copied _ _ _ _ _ k s t, s .counted)
 
 add-row : tie.Need-add-row Inv-loop μ-loop
 add-row c = search needs

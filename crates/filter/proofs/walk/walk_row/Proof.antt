@@ -9,7 +9,7 @@ use lib.ListN.{length}
 use Rattle.seq.proofs.Grid.{cell-below, row-below, next-row}
 use Rattle.filter.specs.Code.Walk.{walkedAt}
 use Rattle.filter.proofs.PassCodeRow.{opened-none, opened-more, Judged, judged-none, judged-skip, judged-more}
-use Rattle.filter.proofs.PassCodeWalk.{tally-le}
+use Rattle.filter.proofs.PassCodeWalk.{counted-le}
 use Rattle.image.proofs.PixelsOf.{binary-at}
 use Rattle.filter.proofs.walk.walk_row.Statement.{statement}
 use Rattle.filter.proofs.walk.walk_row.Tie as tie
@@ -39,7 +39,7 @@ returns : tie.Need-returns Inv-loop μ-loop
 returns c =
     let p = c .before .before .before .before .before .before .pre in
     let j = judged-skip _ _ _ _ _ _ (judged-none _ _ _ _ _ _ _ (p .5)) (p .4) zero-le (omega arith) (c .before .is-opened .ensures (c .if1 .taken)) in
-    (j .swept, j .tallied)
+    (j .swept, j .counted)
 
 loop-holds : tie.Need-loop-holds Inv-loop μ-loop
 loop-holds c = (zero-le, judged-none _ _ _ _ _ _ _ (c .before .before .before .before .before .before .pre .5))
@@ -73,13 +73,13 @@ is-step-requires : tie.Need-is-step-requires Inv-loop μ-loop
 is-step-requires c κs = search needs
 
 add-added : tie.Need-add-added Inv-loop μ-loop
-add-added c = omega (arith, tally-le (c .before .before .before .before .before .before .loop .inv .1 .tallied), cell (c .before .before .before .before .before), c .before .before .before .before .before .before .before .before .before .before .before .before .before .pre .0 .mapped)
+add-added c = omega (arith, counted-le (c .before .before .before .before .before .before .loop .inv .1 .counted), cell (c .before .before .before .before .before), c .before .before .before .before .before .before .before .before .before .before .before .before .before .pre .0 .mapped)
 
 is-step-requires-2 : tie.Need-is-step-requires-2 Inv-loop μ-loop
 is-step-requires-2 c κs = search needs
 
 add-removed : tie.Need-add-removed Inv-loop μ-loop
-add-removed c = omega (arith, tally-le (c .before .before .before .before .before .before .before .loop .inv .1 .tallied), cell (c .before .before .before .before .before .before), c .before .before .before .before .before .before .before .before .before .before .before .before .before .before .pre .0 .mapped)
+add-removed c = omega (arith, counted-le (c .before .before .before .before .before .before .before .loop .inv .1 .counted), cell (c .before .before .before .before .before .before), c .before .before .before .before .before .before .before .before .before .before .before .before .before .before .pre .0 .mapped)
 
 add-col : tie.Need-add-col Inv-loop μ-loop
 add-col c = search needs
@@ -107,7 +107,7 @@ returns-2 : tie.Need-returns-2 Inv-loop μ-loop
 returns-2 c =
     let e = le-antisymm (c .before .loop .inv .0) (c .loop-test .left) in
     let j = c .before .loop .inv .1 in
-    (rw e at (j .swept), rw e at (j .tallied))
+    (rw e at (j .swept), rw e at (j .counted))
 
 pub walk-row-spec : {M : Type 1} → statement M
 walk-row-spec =

@@ -5,7 +5,7 @@ use mathlib.Core.Path.{refl}
 use borrow.Author.Needs.{needs}
 use Rattle.job.proofs.Areas.{part-length}
 use Rattle.job.proofs.Filtered.{computed, never-refused}
-use Rattle.job.proofs.Settled.{ready-small}
+use Rattle.job.proofs.Concluded.{ready-small}
 use Rattle.job.proofs.step.advance.Statement.{statement}
 use Rattle.job.proofs.step.advance.Tie as tie
 
@@ -32,11 +32,11 @@ array-share-prefix-next c =
     let pass = c .before .before .before .before in
     omega (arith, pass .again .kept .1 .1 .1 .1 .0, ready-small (pass .before .before .before .before .before .before .before .before .before .before .pre))
 
-slice-aggregate-settle : tie.Need-slice-aggregate-settle
-slice-aggregate-settle c = part-length _ _ (array-share-prefix-next (c .before))
+slice-aggregate-conclude : tie.Need-slice-aggregate-conclude
+slice-aggregate-conclude c = part-length _ _ (array-share-prefix-next (c .before))
 
-settle-requires : tie.Need-settle-requires
-settle-requires c κs =
+conclude-requires : tie.Need-conclude-requires
+conclude-requires c κs =
     let made = c .before .before .before .before in
     let pass = made .before .before .before in
     let image = pass .before .before in
@@ -79,8 +79,8 @@ advance-spec =
     again-requires
     enum-known-made
     array-share-prefix-next
-    slice-aggregate-settle
-    settle-requires
+    slice-aggregate-conclude
+    conclude-requires
     enum-known-made-2
     same-length
     same-length-2

@@ -1,11 +1,11 @@
--- `job::step::settle`: by the counts the pass is quiet, or refused by 14's pass clause, or changes the image.
+-- `job::step::conclude`: by the counts the pass is quiet, or refused by 14's pass clause, or changes the image.
 -- Assumes nothing.
 use native.Mathlib.Omega.{arith}
 use borrow.Author.Needs.{needs}
 use Rattle.history.specs.Pass.{stableJob}
-use Rattle.job.proofs.Settled.{ready-small, counts-small, next-fits, made-stable, made-refused, made-changed}
-use Rattle.job.proofs.step.settle.Statement.{statement}
-use Rattle.job.proofs.step.settle.Tie as tie
+use Rattle.job.proofs.Concluded.{ready-small, counts-small, next-fits, made-stable, made-refused, made-changed}
+use Rattle.job.proofs.step.conclude.Statement.{statement}
+use Rattle.job.proofs.step.conclude.Tie as tie
 
 add-if1 : tie.Need-add-if1
 add-if1 c =
@@ -89,8 +89,8 @@ returns-3 c =
     let start = test .before .before .before .before in
     made-changed (start .pre .0) (start .pre .1) (test .if1 .left) (clause .before .exceeds .ensures) (clause .if2 .left) (put .put2 .ensures)
 
-pub settle-spec : {M : Type 1} → statement M
-settle-spec =
+pub conclude-spec : {M : Type 1} → statement M
+conclude-spec =
     tie.close
     (tie.spec
     add-if1
