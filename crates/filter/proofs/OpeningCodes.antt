@@ -6,16 +6,15 @@
 --     pixel-colours                a pixel's code
 -- Assumes nothing.
 use mathlib.Core.Bool.{Bool, true, false, _&&_, _||_}
-use mathlib.Core.Logic.{⊎-elim}
 use mathlib.Core.Path.{_≡_, refl, sym, ap, ap₂, _∙_}
 use Prim.Native.Nat.{ℕ, zero, suc, _+_, _*_, _/_, _%_, _^_, _≤_, _<_}
 use native.Mathlib.Omega.{arith}
-use borrow.Author.Tests.{eqb-true, eqb-false}
 use lib.Bits.{bitAnd, bitOr, and-comm, and-zero-l, and-mask, and-high, or-add-and}
 use lib.Dec.{eqb}
 use Rattle.seq.specs.Bits.{bit}
 use Rattle.seq.specs.Lists.{one}
-use Rattle.seq.proofs.Lists.{either, one-le}
+use Rattle.seq.proofs.Bits.{one-digit}
+use Rattle.seq.proofs.Lists.{one-le}
 use Rattle.filter.specs.Code.Erosion.{colours}
 
 pub each-colour {ℓ} : (P : ℕ → Type ℓ) → P 0 → P 1 → (v : ℕ) → v < 2 → P v
@@ -48,16 +47,7 @@ bit-colours p = each-colour (λ v. bit (colours p) v ≡ p v) (low (p 0) (p 1)) 
 -- a bit as a number
 one-bit : (x v : ℕ) → one (bit x v) ≡ x / 2 ^ v % 2
 unfolding bit
-one-bit x v = ⊎-elim on off (either (bit x v))
-  where
-    y : ℕ
-    y = x / 2 ^ v % 2
-
-    on : eqb y 1 ≡ true → one (eqb y 1) ≡ y
-    on e = ap one e ∙ sym (eqb-true y 1 e)
-
-    off : eqb y 1 ≡ false → one (eqb y 1) ≡ y
-    off e = ap one e ∙ omega (arith, eqb-false y 1 e)
+one-bit x v = one-digit (x / 2 ^ v % 2) (omega arith)
 
 pub code-colours : (x : ℕ) → x < 4 → x ≡ colours (bit x)
 code-colours x h = omega (arith, one-bit x 0, one-bit x 1)

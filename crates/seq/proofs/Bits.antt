@@ -1,4 +1,5 @@
 -- The laws of bits.
+--     one-digit                     a digit is 1 or 0 as the test whether it is 1
 --     bit-one, bit-none, one-bit    a bit by its digit, both ways
 --     bit-half, bit-shr             the bits of a half, and after a shift to the right
 --     bit-shl, bit-low              the bits after a shift to the left
@@ -22,10 +23,15 @@ use lib.Bits.{bitAnd, and-step, and-shr, and-le-l}
 use lib.Dec.{eqb}
 use lib.Pow.{pow-pos, pow-mono, pow-add, shr-shr, shl-shr}
 use Rattle.seq.specs.Bits.{bit, bitsOf}
-use Rattle.seq.specs.Lists.{any, all}
+use Rattle.seq.specs.Lists.{any, all, one}
 use Rattle.seq.specs.Tab.{upTo}
 use Rattle.seq.proofs.Lists.{clash, not-true-false, bool-ext, and-right, and-intro, any-intro, any-elim, all-intro, all-elim, keep-intro, keep-elim}
 use Rattle.seq.proofs.Tab.{upTo-intro, upTo-elim}
+
+pub one-digit : (d : ℕ) → d < 2 → one (eqb d 1) ≡ d
+one-digit zero l = refl
+one-digit (suc zero) l = refl
+one-digit (suc (suc d)) l = absurd (omega arith)
 
 pub bit-one : (m n : ℕ) → m / 2 ^ n % 2 ≡ 1 → bit m n ≡ true
 unfolding bit
@@ -41,12 +47,7 @@ bit-none m n e = ne-eqb _ _ e
 
 pub none-bit : (m n : ℕ) → bit m n ≡ false → m / 2 ^ n % 2 ≡ 0
 unfolding bit
-none-bit m n e = let f = eqb-false _ _ e in digit (m / 2 ^ n % 2) (omega arith) f
-  where
-    digit : (d : ℕ) → d < 2 → (d ≡ 1 → ⊥) → d ≡ 0
-    digit zero l h = refl
-    digit (suc zero) l h = absurd (h refl)
-    digit (suc (suc d)) l h = omega arith
+none-bit m n e = sym (one-digit _ (omega arith)) ∙ ap one e
 
 -- bits of equal digits are equal
 same-digit : (m n j k : ℕ) → m / 2 ^ j % 2 ≡ n / 2 ^ k % 2 → bit m j ≡ bit n k
