@@ -128,7 +128,7 @@ typedef struct {
     uint32_t number;
     size_t place;
     int64_t balance; /* added - removed */
-    size_t cover;    /* 1000 x black pixels / pixels, cut down */
+    size_t cover;    /* 1000 x black pixels / pixels to the nearest whole number, an exact half to the even one */
 } mask_figures_answer;
 
 /* ---- tables */

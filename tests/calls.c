@@ -238,7 +238,7 @@ static void by_value(void) {
     mask_part v = mask_view(by_hand(), first, 16, second, 15);
     EXPECT(ACCEPTED(v) && v.area == 2 && v.length == 15);
     mask_figures_answer f = mask_figures(by_hand(), first, 16, second, 15);
-    EXPECT(ACCEPTED(f) && f.balance == -9 && f.cover == 266); /* 4 of 15 */
+    EXPECT(ACCEPTED(f) && f.balance == -9 && f.cover == 267); /* 4 of 15: 266.67 */
     mask_job j = by_hand();
     j.passes = 8;
     v = mask_view(j, first, 15, second, 16);
@@ -253,6 +253,31 @@ static void by_value(void) {
     EXPECT(REFUSED(mask_view(j, first, 15, second, 16), MASK_UNSOUND, 0));
     j.table.elements[63] = 1;
     EXPECT(REFUSED(mask_view(j, first, 15, second, 16), MASK_UNSOUND, 0));
+}
+
+/* Cover is to the nearest thousandth, and an exact half goes to the even one. */
+static void covers(void) {
+    static const struct {
+        size_t width, height, black, cover;
+    } cases[] = {
+        {4, 4, 1, 62},           {4, 4, 3, 188},           {4, 4, 15, 938},         {20, 20, 1, 2},
+        {1, 3, 1, 333},          {1, 3, 2, 667},           {7, 1, 0, 0},            {7, 1, 7, 1000},
+        {256, 256, 32, 0},       {256, 256, 33, 1},        {256, 256, 4096, 62},    {256, 256, 12288, 188},
+        {256, 256, 65535, 1000}, {256, 256, 65536, 1000},
+    };
+    static uint8_t first[65536];
+    static uint8_t second[65536];
+    for (size_t i = 0; i < sizeof cases / sizeof *cases; i++) {
+        mask_job j = {0};
+        j.stage = MASK_STAGE_LOADED;
+        j.width = cases[i].width;
+        j.height = cases[i].height;
+        j.table = ring();
+        memset(first, 0, sizeof first);
+        memset(first, 1, cases[i].black);
+        mask_figures_answer f = mask_figures(j, first, sizeof first, second, sizeof second);
+        EXPECT(ACCEPTED(f) && f.balance == 0 && f.cover == cases[i].cover);
+    }
 }
 
 /* The ring on 5 x 5 with one black pixel: one pass removes it. */
@@ -327,6 +352,7 @@ int main(void) {
     fields();
     empty();
     by_value();
+    covers();
     whole_job(0);
     whole_job(1);
     pass_clause();

@@ -145,7 +145,17 @@ impl Entry {
         let (added, removed) = self.changed();
         Figures {
             balance: added as i64 - removed as i64,
-            cover: 1000 * self.last().black() / self.pixels(),
+            cover: cover(self.last().black(), self.pixels()),
         }
+    }
+}
+
+/// Thousandths: a half is added and the rest cut off. Nothing is left exactly where a half was added to a half.
+fn cover(black: usize, pixels: usize) -> usize {
+    let sum = 2000 * black + pixels;
+    let near = sum / (2 * pixels);
+    match sum % (2 * pixels) {
+        0 => near & !1,
+        _ => near,
     }
 }

@@ -80,7 +80,7 @@ pub enum Progress {
 pub struct Figures {
     /// Added less removed.
     pub balance: i64,
-    /// Black pixels in thousandths of all, cut down.
+    /// Black pixels in thousandths of all: to the nearest whole number, an exact half to the even one.
     pub cover: usize,
 }
 

@@ -1,5 +1,6 @@
 pub mod Answers
 pub mod Files
+pub mod Figures
 pub mod Images
 pub mod Demand1
 pub mod Demand2

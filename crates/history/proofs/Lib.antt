@@ -2,6 +2,7 @@ pub mod Images
 pub mod Sources
 pub mod Areas
 pub mod Ready
+pub mod Rounding
 pub mod Unsound
 pub mod Passes
 pub mod Runs
@@ -16,6 +17,7 @@ pub mod Related
 pub mod Sound
 pub mod Pass
 pub mod View
+pub mod Figures
 pub mod Run
 pub mod Load
 pub mod Collect

@@ -1,12 +1,15 @@
--- A list of calls whose every step is computed, with what 01 says of it.
+-- A list of calls whose every step is computed, with what 01 says of it; and covers, with what 02 (T-05) says of them.
 --     row c w       after the call c: refusal number, stage, passes, added, removed, black in view, cover, history (0 empty, 1 held, 2 settled)
 --     trace cs w    the rows of a list of calls
 --     cases-met     one theorem, computed
+--     reads n m c   n black pixels of m read c
+--     covers-met    computed
 -- Assumes nothing.
-use mathlib.Core.Bool.{true, cond}
+use mathlib.Core.Bool.{Bool, true, cond, _&&_}
 use mathlib.Core.List.{List, [], _∷_, _++_}
 use mathlib.Core.Path.{_≡_, refl}
 use Prim.Native.Nat.{ℕ}
+use lib.Dec.{eqb}
 use lib.ListN.{replicate}
 use Rattle.operator.specs.Image.{black}
 use Rattle.operator.specs.Samples.{ring}
@@ -15,7 +18,7 @@ use Rattle.history.specs.Call.{Call, load, pass, run, collect, answerOf,
 use Rattle.history.specs.History.{History, empty, holds}
 use Rattle.history.specs.Lists.{Course, start, step}
 use Rattle.history.specs.Source.{fromFile}
-use Rattle.history.specs.View.{viewOf, figuresOf}
+use Rattle.history.specs.View.{viewOf, cover, figuresOf}
 use Rattle.seq.specs.Lists.{sameList}
 use Rattle.verdict.specs.Answers.{numberOf}
 
@@ -89,8 +92,9 @@ unfolding Rattle.history.specs.Call.answerOf Rattle.history.specs.spec
     Rattle.history.specs.Run.runFor Rattle.history.specs.Run.runOf Rattle.history.specs.State.emptyJob
     Rattle.history.specs.State.present Rattle.history.specs.State.image Rattle.history.specs.State.nonzero
     Rattle.history.specs.State.inconsistent Rattle.history.specs.State.unsound Rattle.history.specs.State.readyVerdict
-    Rattle.history.specs.View.viewOf Rattle.history.specs.View.cover Rattle.history.specs.View.figuresOf
-    Rattle.seq.specs.Bits.bit Rattle.seq.specs.Bits.bitsOf Rattle.seq.specs.Tab.upTo Rattle.verdict.specs.Writer.over
+    Rattle.history.specs.Rounding.nearest Rattle.history.specs.View.viewOf Rattle.history.specs.View.cover
+    Rattle.history.specs.View.figuresOf Rattle.seq.specs.Bits.bit Rattle.seq.specs.Bits.bitsOf Rattle.seq.specs.Tab.upTo
+    Rattle.verdict.specs.Writer.over
     Rattle.table.specs.Mask.positions Rattle.table.specs.Mask.validMask Rattle.table.specs.Mask.meets Rattle.table.specs.Mask.sumInside
     Rattle.table.specs.Mask.sum Rattle.table.specs.Mask.partner Rattle.table.specs.Mask.unpartnered Rattle.table.specs.Mask.persistentFor
     Rattle.table.specs.Record.masks Rattle.table.specs.Record.persistents Rattle.table.specs.Record.badCount
@@ -110,3 +114,16 @@ unfolding Rattle.history.specs.Call.answerOf Rattle.history.specs.spec
     Rattle.operator.specs.Pass.solid Rattle.operator.specs.Pass.opened Rattle.operator.specs.Pass.held Rattle.operator.specs.Pass.passAt
     Rattle.operator.specs.Pass.pass
 cases-met = refl
+
+abbrev pub reads : ℕ → ℕ → ℕ → Bool
+reads n m c = eqb (cover n m) c
+
+-- the request's two; other exact halves; between halves; both ends; the largest image
+pub covers-met : (reads 1 16 62 && reads 3 16 188
+    && reads 5 16 312 && reads 15 16 938 && reads 3 80 38 && reads 1 400 2 && reads 1 2000 0 && reads 3 2000 2 && reads 1999 2000 1000
+    && reads 4 15 267 && reads 2 3 667 && reads 1 3 333
+    && reads 0 7 0 && reads 7 7 1000
+    && reads 32 65536 0 && reads 33 65536 1 && reads 99 65536 2 && reads 4096 65536 62 && reads 12288 65536 188 && reads 65535 65536 1000)
+    ≡ true
+unfolding cover Rattle.history.specs.Rounding.nearest
+covers-met = refl

@@ -4,6 +4,7 @@ pub mod Load
 pub mod Pass
 pub mod Sound
 pub mod Run
+pub mod Rounding
 pub mod View
 pub mod Collect
 pub mod Answers

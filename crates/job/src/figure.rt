@@ -6,14 +6,23 @@ ghost use Rattle.operator.specs.Image;
 ghost use Rattle.history.specs.View;
 ghost use Rattle.image.specs.Size.{maxPixels};
 
-// Thousandths of the pixels that are black, cut down.
 const WHOLE: usize = 1000;
 
+// Thousandths of the pixels that are black: the nearest whole number, and of two the even one (02, T-05).
 pub(crate) fn cover(black: usize, pixels: usize) -> usize
     requires { ⌜ (0 < pixels) × (black ≤ maxPixels) ⌝ }
     ensures { λ r. ⌜ r ≡ View.cover black pixels ⌝ }
 {
-    WHOLE * black / pixels
+    let part = WHOLE * black;
+    let low = part / pixels;
+    let twice = 2 * (part % pixels);
+    if twice < pixels {
+        return low;
+    }
+    if pixels < twice {
+        return low + 1;
+    }
+    low + low % 2
 }
 
 // How many pixels are 1.

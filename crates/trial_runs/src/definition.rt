@@ -74,18 +74,31 @@ pub(crate) fn view(side: Side) -> Side {
     sides::with_output(side, side.job, out, count)
 }
 
-// Cover in thousandths, cut down; balance signed.
+// Cover in thousandths; balance signed.
 pub(crate) fn figures(side: Side) -> Side {
     let job = side.job;
     let count = grid::pixels(sides::size(job));
     let pixels = side.first;
     let black = bytes::count(&pixels, &pixels, count, 1, 1);
     let mut next = side;
-    if count != 0 {
-        next.told = 1000 * (black % 65536) / count;
-    }
+    next.told = thousandths(black, count);
     next.balance = difference(job.added, job.removed);
     next
+}
+
+// To the nearest, both numbers below 65,536: a half is added and the rest cut off. Nothing is left exactly where a half was added to a half; the
+// even one is then this or the one before.
+fn thousandths(black: usize, count: usize) -> usize {
+    let pixels = count % 65536;
+    if pixels == 0 {
+        return 0;
+    }
+    let sum = 2000 * (black % 65536) + pixels;
+    let near = sum / (2 * pixels);
+    if sum % (2 * pixels) == 0 {
+        return near - near % 2;
+    }
+    near
 }
 
 // The difference of two numbers below 32,768.

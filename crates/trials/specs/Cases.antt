@@ -70,6 +70,6 @@ unfolding meets Rattle.seq.specs.Bits.bit Rattle.seq.specs.Bits.bitsOf Rattle�
     Rattle.history.specs.Pass.passReady Rattle.history.specs.Pass.passOf Rattle.history.specs.Run.runFor Rattle.history.specs.Run.runOf
     Rattle.history.specs.State.emptyJob Rattle.history.specs.State.present Rattle.history.specs.State.image
     Rattle.history.specs.State.nonzero Rattle.history.specs.State.inconsistent Rattle.history.specs.State.unsound
-    Rattle.history.specs.State.readyVerdict Rattle.history.specs.View.viewOf Rattle.history.specs.View.cover
+    Rattle.history.specs.State.readyVerdict Rattle.history.specs.View.viewOf Rattle.history.specs.View.cover Rattle.history.specs.Rounding.nearest
     Rattle.history.specs.View.figuresOf
 cases-met = refl

@@ -152,8 +152,16 @@ pub fn figures(record: &JobRecord, first: &[u8], second: &[u8]) -> Result<Figure
     let black = present(record, first, second).black();
     Ok(Figures {
         balance: record.added as i64 - record.removed as i64,
-        cover: 1000 * black / pixels(record),
+        cover: cover(black, pixels(record)),
     })
+}
+
+/// Of all whole thousandths the nearest one; of two equally near the even one.
+fn cover(black: usize, pixels: usize) -> usize {
+    let distance = |thousandths: &usize| (thousandths * pixels).abs_diff(1000 * black);
+    (0..=1000)
+        .min_by_key(|thousandths| (distance(thousandths), thousandths % 2))
+        .expect("there are thousandths")
 }
 
 /// 14, 16, 17, 13; writes the file and empties the record.
