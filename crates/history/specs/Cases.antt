@@ -2,19 +2,19 @@
 --     row c w       after the call c: refusal number, stage, passes, added, removed, black in view, cover, history (0 empty, 1 held, 2 settled)
 --     trace cs w    the rows of a list of calls
 --     cases-met     one theorem, computed
---     reads n m c   n black pixels of m read c
+--     covers        black pixels, pixels, and the cover expected of them
 --     covers-met    computed
 -- Assumes nothing.
-use mathlib.Core.Bool.{Bool, true, cond, _&&_}
-use mathlib.Core.List.{List, [], _∷_, _++_}
+use mathlib.Core.Bool.{true, cond}
+use mathlib.Core.List.{List, [], _∷_, _++_, map}
 use mathlib.Core.Path.{_≡_, refl}
 use Prim.Native.Nat.{ℕ}
-use lib.Dec.{eqb}
 use lib.ListN.{replicate}
 use Rattle.operator.specs.Image.{black}
 use Rattle.operator.specs.Samples.{ring}
 use Rattle.history.specs.Answers.{figuredCover}
 use Rattle.history.specs.Call.{Call, load, pass, run, collect, answerOf, refusalOf}
+use Rattle.history.specs.Computing.{computing}
 use Rattle.history.specs.History.{History, empty, holds}
 use Rattle.history.specs.Lists.{Course, start, step}
 use Rattle.history.specs.Source.{fromFile}
@@ -77,53 +77,34 @@ expected =
     ++ (0 ∷ 2 ∷ 1 ∷ 0 ∷ 1 ∷ 0 ∷ 0 ∷ 2 ∷ [])
 
 pub cases-met : sameList (trace calls (start (replicate 25 7) (replicate 25 7))) expected ≡ true
-unfolding Rattle.history.specs.Call.answerOf Rattle.history.specs.Call.stateOf Rattle.history.specs.Collect.collected
-    Rattle.history.specs.Collect.collectVerdict Rattle.history.specs.Collect.collectWritten
-    Rattle.history.specs.Collect.collectOutput Rattle.history.specs.Collect.collectState
-    Rattle.history.specs.History.entered Rattle.history.specs.History.nextOf Rattle.history.specs.History.joined
-    Rattle.history.specs.History.marked Rattle.history.specs.History.passed Rattle.history.specs.History.ran
-    Rattle.history.specs.History.refusedBy Rattle.history.specs.History.accepted Rattle.history.specs.History.after
-    Rattle.history.specs.Lists.start Rattle.history.specs.Lists.lengthsOf Rattle.history.specs.Lists.tallied
-    Rattle.history.specs.Lists.step Rattle.history.specs.Load.loadVerdict Rattle.history.specs.Load.loadedJob
-    Rattle.history.specs.Load.loadState Rattle.history.specs.Pass.nextImage Rattle.history.specs.Pass.nowAdded
-    Rattle.history.specs.Pass.nowRemoved Rattle.history.specs.Pass.exceeds Rattle.history.specs.Pass.withNext
-    Rattle.history.specs.Pass.changedJob Rattle.history.specs.Pass.stableJob Rattle.history.specs.Pass.changing
-    Rattle.history.specs.Pass.passLoaded Rattle.history.specs.Pass.passReady Rattle.history.specs.Pass.passOf
-    Rattle.history.specs.Run.runFor Rattle.history.specs.Run.runOf Rattle.history.specs.State.emptyJob
-    Rattle.history.specs.State.present Rattle.history.specs.State.image Rattle.history.specs.State.nonzero
-    Rattle.history.specs.State.inconsistent Rattle.history.specs.State.unsound Rattle.history.specs.State.readyVerdict
-    Rattle.history.specs.Rounding.nearest Rattle.history.specs.View.viewOf Rattle.history.specs.View.cover
-    Rattle.history.specs.View.figuresOf Rattle.seq.specs.Bits.bit Rattle.seq.specs.Bits.bitsOf Rattle.seq.specs.Tab.upTo
-    Rattle.verdict.specs.Writer.over
-    Rattle.table.specs.Mask.positions Rattle.table.specs.Mask.validMask Rattle.table.specs.Mask.meets Rattle.table.specs.Mask.sumInside
-    Rattle.table.specs.Mask.sum Rattle.table.specs.Mask.partner Rattle.table.specs.Mask.unpartnered Rattle.table.specs.Mask.persistentFor
-    Rattle.table.specs.Record.masks Rattle.table.specs.Record.persistents Rattle.table.specs.Record.badCount
-    Rattle.table.specs.Record.notRising Rattle.table.specs.Record.badElement Rattle.table.specs.Record.badPlace
-    Rattle.table.specs.Record.badPersistent Rattle.table.specs.Record.disjointFrom Rattle.table.specs.Record.missing
-    Rattle.table.specs.Record.recordVerdict Rattle.image.specs.File.rasterPixel Rattle.image.specs.File.pixelsOf
-    Rattle.image.specs.File.paddingSet Rattle.image.specs.File.fileVerdict Rattle.image.specs.File.imageVerdict
-    Rattle.image.specs.File.imageRead Rattle.image.specs.File.imageArea Rattle.image.specs.File.pixelVerdict Rattle.image.specs.File.rowByte
-    Rattle.image.specs.File.imageBytes Rattle.image.specs.File.writeVerdict Rattle.image.specs.File.imageWritten
-    Rattle.image.specs.File.imageOutput Rattle.image.specs.Header.isDigit Rattle.image.specs.Header.decimalValue
-    Rattle.image.specs.Header.strict Rattle.image.specs.Header.widthPart Rattle.image.specs.Header.heightPart
-    Rattle.image.specs.Header.raster Rattle.image.specs.Header.startsMagic Rattle.image.specs.Header.headerForm
-    Rattle.image.specs.Header.widthOf Rattle.image.specs.Header.heightOf Rattle.image.specs.Header.decimal Rattle.image.specs.Header.header
-    Rattle.image.specs.File.imageOf Rattle.image.specs.Size.within Rattle.image.specs.Size.badSize Rattle.image.specs.Size.rowBytes
-    Rattle.operator.specs.Image.black Rattle.operator.specs.Image.added Rattle.operator.specs.Image.removed
-    Rattle.operator.specs.Image.differs Rattle.operator.specs.Image.exchange Rattle.operator.specs.Pass.inside
-    Rattle.operator.specs.Pass.solid Rattle.operator.specs.Pass.opened Rattle.operator.specs.Pass.held Rattle.operator.specs.Pass.passAt
-    Rattle.operator.specs.Pass.pass
+unfolding computing
 cases-met = refl
 
-abbrev pub reads : ℕ → ℕ → ℕ → Bool
-reads n m c = eqb (cover n m) c
+-- black pixels, pixels, cover: 02's two, other exact halves, between halves, both ends, the largest image
+abbrev pub covers : List (ℕ × ℕ × ℕ)
+covers =
+    (1, 16, 62)
+    ∷ (3, 16, 188)
+    ∷ (5, 16, 312)
+    ∷ (15, 16, 938)
+    ∷ (3, 80, 38)
+    ∷ (1, 400, 2)
+    ∷ (1, 2000, 0)
+    ∷ (3, 2000, 2)
+    ∷ (1999, 2000, 1000)
+    ∷ (4, 15, 267)
+    ∷ (2, 3, 667)
+    ∷ (1, 3, 333)
+    ∷ (0, 7, 0)
+    ∷ (7, 7, 1000)
+    ∷ (32, 65536, 0)
+    ∷ (33, 65536, 1)
+    ∷ (99, 65536, 2)
+    ∷ (4096, 65536, 62)
+    ∷ (12288, 65536, 188)
+    ∷ (65535, 65536, 1000)
+    ∷ []
 
--- the request's two; other exact halves; between halves; both ends; the largest image
-pub covers-met : (reads 1 16 62 && reads 3 16 188
-    && reads 5 16 312 && reads 15 16 938 && reads 3 80 38 && reads 1 400 2 && reads 1 2000 0 && reads 3 2000 2 && reads 1999 2000 1000
-    && reads 4 15 267 && reads 2 3 667 && reads 1 3 333
-    && reads 0 7 0 && reads 7 7 1000
-    && reads 32 65536 0 && reads 33 65536 1 && reads 99 65536 2 && reads 4096 65536 62 && reads 12288 65536 188 && reads 65535 65536 1000)
-    ≡ true
-unfolding cover Rattle.history.specs.Rounding.nearest
+pub covers-met : map (λ c. cover (c .0) (c .1)) covers ≡ map (λ c. c .2) covers
+unfolding computing
 covers-met = refl

@@ -15,4 +15,5 @@ pub mod Answered
 pub mod Demand1
 pub mod Demand2
 pub mod Demand3
+pub mod Computing
 pub mod Cases
