@@ -2,10 +2,10 @@
 --     cover-zero, cover-all, cover-most    0 exactly when at most half a thousandth is black, 1000 when all is, never above
 --     figures-nearest                      cover is the nearest thousandth of what view shows
 -- Assumes nothing.
-use mathlib.Core.Logic.{_↔_, ⊎-elim}
+use mathlib.Core.Logic.{_↔_}
 use mathlib.Core.Path.{_≡_, refl, sym}
 use Prim.Native.Nat.{ℕ, _*_, _≤_, _<_}
-use native.Mathlib.Nat.{mul-le-mul-right}
+use native.Mathlib.Nat.{lt-of-mul-lt-mul-right}
 use native.Mathlib.Omega.{arith}
 use Rattle.operator.specs.Image.{black}
 use Rattle.history.specs.Answers.{figuredVerdict, figuredCover}
@@ -15,7 +15,6 @@ use Rattle.history.specs.View.{viewOf, cover, figuresAs, figuresOf}
 use Rattle.history.proofs.Ready.{accepted-ready, ready-some}
 use Rattle.history.proofs.Rounding.{nearest-is, nearest-only}
 use Rattle.history.proofs.View.{view-ready}
-use Rattle.seq.proofs.Tests.{lt-or-le}
 use Rattle.verdict.specs.declared.Verdict.{Verdict}
 use Rattle.verdict.specs.declared.Verdict.the-variants.{Accepted, Refused}
 use Rattle.verdict.proofs.Rules.{refused-accepted}
@@ -36,10 +35,9 @@ module _ (n m : ℕ) (pos : 0 < m) where
       by x = omega (arith, x .below)
 
   pub cover-most : n ≤ m → cover n m ≤ 1000
-  cover-most l = ⊎-elim (λ a. absurd (over a)) (λ b. b) (lt-or-le 1000 (cover n m))
-    where
-      over : 1001 ≤ cover n m → ⊥
-      over a = omega (arith, mul-le-mul-right m a, cover-nearest .above)
+  cover-most l =
+      let under : cover n m * m < 1001 * m = omega (arith, cover-nearest .above) in
+      omega (arith, lt-of-mul-lt-mul-right m under)
 
 pub cover-all : (m : ℕ) → 0 < m → cover m m ≡ 1000
 cover-all m pos = sym (cover-only m m pos (record { above = omega arith; below = omega arith; even = λ e. refl }))

@@ -5,7 +5,7 @@
 -- Assumes nothing.
 use mathlib.Core.Bool.{Bool, true, false}
 use mathlib.Core.Logic.{inl, inr, ⊎-elim}
-use mathlib.Core.Path.{_≡_, refl, ap, _∙_}
+use mathlib.Core.Path.{_≡_, refl, ap, _∙_, subst}
 use Prim.Native.Nat.{ℕ, _+_, _*_, _/_, _%_, _≤_, _<_}
 use native.Mathlib.Nat.{mul-le-mul-right, mod-lt, div-add-mod'}
 use native.Mathlib.Omega.{arith}
@@ -74,14 +74,10 @@ module _ (a n : ℕ) (pos : 0 < n) where
       half e = rw (nearest-half a n e) (⊎-elim stays rises (lt-or-le (a / n % 2) 1))
         where
           stays : a / n % 2 < 1 → Nearest a n (a / n + a / n % 2)
-          stays l =
-              let z : a / n + a / n % 2 ≡ a / n = omega arith in
-              rw z (down (omega arith) (λ p. omega arith))
+          stays l = subst (Nearest a n) (omega arith) (down (omega arith) (λ p. omega arith))
 
           rises : 1 ≤ a / n % 2 → Nearest a n (a / n + a / n % 2)
-          rises l =
-              let z : a / n + a / n % 2 ≡ a / n + 1 = omega arith in
-              rw z (up (omega arith) (λ p. omega arith))
+          rises l = subst (Nearest a n) (omega arith) (up (omega arith) (λ p. omega arith))
 
   -- of two such numbers both would be a half away, so they would be even and next to each other
   apart : {c d : ℕ} → Nearest a n c → Nearest a n d → c < d → ⊥
