@@ -53,20 +53,25 @@ module _ (j : Job) (s : State) where
   next-second l = ⊎-elim (λ e. rw e (length-over (nextImage s) (s .second) l)) (λ e. rw e) (either (even (s .job .passes)))
 
 module _ (s : State) where
-  -- a changing pass: the parity names the area with the new image
+  -- a changing pass turns the parity
+  turned : even (changedJob s .passes) ≡ not (even (s .job .passes))
+  unfolding changedJob
+  turned = even-next (s .job .passes)
+
+  -- so it names the area with the new image
   pub next-changed : length (nextImage s) ≡ pixels (s .job) → image (withNext (changedJob s) s) ≡ nextImage s
   unfolding image present withNext changedJob
   next-changed l = ⊎-elim even-passes odd-passes (either (even (s .job .passes)))
     where
       even-passes : even (s .job .passes) ≡ true → image (withNext (changedJob s) s) ≡ nextImage s
-      even-passes e = rw (e, even-next (s .job .passes), e) (take-over (nextImage s) (s .second) (pixels (s .job)) l)
+      even-passes e = rw (e, turned, e) (take-over (nextImage s) (s .second) (pixels (s .job)) l)
 
       odd-passes : even (s .job .passes) ≡ false → image (withNext (changedJob s) s) ≡ nextImage s
-      odd-passes e = rw (e, even-next (s .job .passes), e) (take-over (nextImage s) (s .first) (pixels (s .job)) l)
+      odd-passes e = rw (e, turned, e) (take-over (nextImage s) (s .first) (pixels (s .job)) l)
 
   -- a quiet pass: the parity names the area that it named
   pub next-stable : image (withNext (stableJob s) s) ≡ image s
   unfolding image present withNext stableJob
   next-stable =
-      ⊎-elim (λ (e : even (s .job .passes) ≡ true). rw (e, e)) (λ (e : even (s .job .passes) ≡ false). rw (e, e))
+      ⊎-elim (λ (e : even (s .job .passes) ≡ true). simp e) (λ (e : even (s .job .passes) ≡ false). simp e)
       (either (even (s .job .passes)))

@@ -35,7 +35,7 @@ module _ {s : State} {e : Entry} {n : ℕ} (r : Held s e n) where
 
   pub collect-held : (out : List ℕ) → collectVerdict (length out) s ≡ refusedBy (collect out) (lengthsOf s) (holds e)
   unfolding collectVerdict refusedBy
-  collect-held out = rw (sound-held r, collected-held, r .job, stage-held, stage-unsettled)
+  collect-held out = simp (sound-held r, collected-held, r .job, stage-held, stage-unsettled)
 
 pub collect-keeps : (out : List ℕ) (s : State) (H : History) (n : ℕ) → RelatedTo s H n
     → RelatedTo (collectState (length out) s) (after (collect out) (lengthsOf s) H)

@@ -38,7 +38,7 @@ load-empty t x s q = rw (sound-empty s q, q)
 
 pub load-held : (t : Table) (x : Source) {s : State} {e : Entry} {n : ℕ} → Held s e n → loadVerdict t x s ≡ Refused (refusal 15 0)
 unfolding loadVerdict
-load-held t x r = rw (sound-held r, r .job, stage-held)
+load-held t x r = simp (sound-held r, r .job, stage-held)
 
 refused-held : (t : Table) (x : Source) (n : Lengths) (e : Entry) → refusedBy (load t x) n (holds e) ≡ Refused (refusal 15 0)
 unfolding refusedBy

@@ -65,8 +65,8 @@ module _ {s : State} {e : Entry} {n : ℕ} (r : Held s e n) where
   answered-held (load t x) = ap loaded (load-held t x r)
   answered-held pass = ap passed answered-pass
   answered-held run = ap passed (run-answer r ∙ sym (ap restIf (ran-settled r)))
-  answered-held view = rw (ready-held r, r .shown)
-  answered-held figures = rw (ready-held r, r .shown, r .job)
+  answered-held view = simp (ready-held r, r .shown)
+  answered-held figures = simp (ready-held r, r .shown, r .job)
   answered-held (collect out) = rw (collect-held r out, collected-held r)
 
 pub answered : (c : Call) (s : State) (H : History) (n : ℕ) → RelatedTo s H n → answerOf c s ≡ answeredBy c (lengthsOf s) H
