@@ -1,17 +1,15 @@
 // The preview (01, One pass): the 3 × 3 median.
 use crate::window;
 use verdict::Verdict;
-ghost use mathlib.Core.Bool.{true};
 ghost use mathlib.Core.List.{[], _∷_};
 ghost use mathlib.Core.Path.{_≡_};
 ghost use Prim.Native.Nat.{_+_, _*_, _≤_, _<_};
-ghost use lib.Dec.{leb};
 ghost use lib.ListN.{length, getD};
 ghost use lib.Seq.{sets};
+ghost use Rattle.operator.specs.Image.{IsImage};
 ghost use Rattle.operator.specs.Preview.{fromBits, pattern, fiveOrMore, preview};
 ghost use Rattle.filter.specs.Previewed.{previewVerdict, previewArea};
 ghost use Rattle.operator.specs.Window.{window};
-ghost use Rattle.seq.specs.Lists.{all};
 ghost use Rattle.seq.specs.Tab.{tab};
 ghost use Rattle.verdict.specs.Writer.{over};
 
@@ -51,8 +49,7 @@ pub fn preview(width: usize, height: usize, pixels: &[u8], area: &mut [u8]) -> V
 }
 
 fn fill(width: usize, height: usize, pixels: &[u8], area: &mut [u8])
-    requires { ⌜ (0 < width) × (length (now pixels) ≡ width * height) × (all (λ v. leb v 1) (now pixels) ≡ true)
-        × (width * height ≤ length (now area)) ⌝ }
+    requires { ⌜ IsImage width height (now pixels) × (width * height ≤ length (now area)) ⌝ }
     ensures { λ r. ⌜ now (area .exit) ≡ over (preview width height (now (pixels .entry))) (now (area .entry)) ⌝ }
 {
     let mut row = 0;
@@ -63,8 +60,7 @@ fn fill(width: usize, height: usize, pixels: &[u8], area: &mut [u8])
 }
 
 fn fill_row(width: usize, height: usize, pixels: &[u8], row: usize, area: &mut [u8])
-    requires { ⌜ (row < height) × (length (now pixels) ≡ width * height) × (all (λ v. leb v 1) (now pixels) ≡ true)
-        × (row * width + width ≤ length (now area)) ⌝ }
+    requires { ⌜ IsImage width height (now pixels) × (row < height) × (row * width + width ≤ length (now area)) ⌝ }
     ensures { λ r. ⌜ now (area .exit)
         ≡ sets (now (area .entry)) (row * width) (tab (λ c. fiveOrMore (pattern (window width height (now (pixels .entry)) row c))) width) ⌝ }
 {

@@ -19,8 +19,8 @@ loop-holds c = rowed-none (search needs)
 
 fill-row-requires : tie.Need-fill-row-requires Inv-loop μ-loop
 fill-row-requires c κs =
-    let p = c .before .before .before .before .before .pre in
-    (c .before .loop-test .taken, p .1, p .2, rowed-room (c .before .before .loop .inv) (c .before .loop-test .taken))
+    let t = c .before .loop-test .taken in
+    (c .before .before .before .before .before .pre .0, t, rowed-room (c .before .before .loop .inv) t)
 
 add-row : tie.Need-add-row Inv-loop μ-loop
 add-row c = search needs

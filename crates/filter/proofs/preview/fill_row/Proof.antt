@@ -28,7 +28,7 @@ gather-requires : tie.Need-gather-requires Inv-loop μ-loop
 gather-requires c κs = search needs
 
 answer-requires : tie.Need-answer-requires Inv-loop μ-loop
-answer-requires c κs = rw (c .gather .ensures) (pattern-lt _ _ _ _ _ (c .before .before .before .before .before .pre .2))
+answer-requires c κs = rw (c .gather .ensures) (pattern-lt _ _ _ _ _ (c .before .before .before .before .before .pre .0 .binary))
 
 add-area : tie.Need-add-area Inv-loop μ-loop
 add-area c = search needs

@@ -34,7 +34,7 @@ returns-2 : tie.Need-returns-2
 returns-2 c = rw (c .refused .ensures) (preview-short _ _ _ _ (accepted (c .before .before)) (c .before .if1 .taken))
 
 fill-requires : tie.Need-fill-requires
-fill-requires c κs = let m = checked-image _ _ _ (accepted (c .before .before)) in (m .wide, m .sized, m .binary, c .before .if1 .left)
+fill-requires c κs = (checked-image _ _ _ (accepted (c .before .before)), c .before .if1 .left)
 
 same-length : tie.Need-same-length
 same-length c = search needs

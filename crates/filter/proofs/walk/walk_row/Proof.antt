@@ -21,65 +21,83 @@ Inv-loop elements shared width height pixels map row next₀ start added₀ remo
 abbrev μ-loop : tie.MeasureT-loop
 μ-loop elements shared width height pixels map row next₀ start added₀ removed₀ col₀ next added removed col = width - col
 
--- the row lies within the map
-room : (c : tie.Start Inv-loop μ-loop) → c .args .row * c .args .width + c .args .width ≤ length (c .args .map .now)
-room c = omega (arith, row-below (c .args .width) (c .pre .1), next-row (c .args .row) (c .args .width), c .pre .0 .mapped)
+-- places: the function's start, from where its slices are known and from a turn of the loop; the turn in which a pixel is judged
+abbrev lent : tie.After-slice-known Inv-loop μ-loop → tie.Start Inv-loop μ-loop
+lent c = c .before .before .before .before
+
+abbrev start : tie.In-loop Inv-loop μ-loop → tie.Start Inv-loop μ-loop
+start c = lent (c .before .before .before .before)
+
+abbrev turn : tie.After-judged Inv-loop μ-loop → tie.In-loop Inv-loop μ-loop
+turn c = c .before .before .before .before
 
 -- the pixel at hand lies within image and map
-cell : (c : tie.In-loop Inv-loop μ-loop) → c .before .before .before .before .before .before .before .before .args .row * c .before .before .before .before .before .before .before .before .args .width + c .before .loop .col < c .before .before .before .before .before .before .before .before .args .width * c .before .before .before .before .before .before .before .before .args .height
-cell c = cell-below (c .before .before .before .before .before .before .before .before .pre .1) (c .loop-test .taken)
+within : (c : tie.In-loop Inv-loop μ-loop)
+    → start c .args .row * start c .args .width + c .before .loop .col < start c .args .width * start c .args .height
+within c = cell-below (start c .pre .1) (c .loop-test .taken)
+
+-- so there is room for one count more
+countable : (c : tie.In-loop Inv-loop μ-loop)
+    → (c .before .loop .added < length (start c .args .map .now)) × (c .before .loop .removed < length (start c .args .map .now))
+countable c =
+    let few = counted-le (c .before .loop .inv .1 .counted) in
+    let mapped = start c .pre .0 .mapped in
+    (omega (arith, few, within c, mapped), omega (arith, few, within c, mapped))
 
 mul-start : tie.Need-mul-start Inv-loop μ-loop
 mul-start c = search needs
 
 is-opened-requires : tie.Need-is-opened-requires Inv-loop μ-loop
-is-opened-requires c κs = room (c .before .before .before .before)
+is-opened-requires c κs =
+    let s = lent c in
+    omega (arith, row-below (s .args .width) (s .pre .1), next-row (s .args .row) (s .args .width), s .pre .0 .mapped)
 
 returns : tie.Need-returns Inv-loop μ-loop
 returns c =
-    let p = c .before .before .before .before .before .before .pre in
+    let p = lent (c .before .before) .pre in
     let j = judged-skip _ _ _ _ _ _ (judged-none _ _ _ _ _ _ _ (p .5)) (p .4) zero-le (omega arith) (c .before .is-opened .ensures (c .if1 .taken)) in
     (j .swept, j .counted)
 
 loop-holds : tie.Need-loop-holds Inv-loop μ-loop
-loop-holds c = (zero-le, judged-none _ _ _ _ _ _ _ (c .before .before .before .before .before .before .pre .5))
+loop-holds c = (zero-le, judged-none _ _ _ _ _ _ _ (lent (c .before .before) .pre .5))
 
 add-at : tie.Need-add-at Inv-loop μ-loop
 add-at c = search needs
 
 shared-slice-read-if2 : tie.Need-shared-slice-read-if2 Inv-loop μ-loop
-shared-slice-read-if2 c = rw (c .before .before .before .before .before .before .before .before .before .pre .0 .mapped) (cell (c .before))
+shared-slice-read-if2 c = rw (start (c .before) .pre .0 .mapped) (within (c .before))
 
 shared-slice-read-value : tie.Need-shared-slice-read-value Inv-loop μ-loop
-shared-slice-read-value c = rw (c .before .before .before .before .before .before .before .before .before .before .before .pre .0 .image .sized) (cell (c .before .before .before))
+shared-slice-read-value c = let t = c .before .before .before in rw (start t .pre .0 .image .sized) (within t)
 
 judged-requires : tie.Need-judged-requires Inv-loop μ-loop
 judged-requires c κs =
-    let s = c .before .before .before .before .before .before .before .before .before .before .before in
+    let t = c .before .before .before in
+    let s = start t in
     let p = s .pre in (
       p .0 .valid,
       p .0 .mapped,
       p .1,
-      c .before .before .before .loop-test .taken,
-      binary-at (s .args .pixels .now) (s .args .row * s .args .width + c .before .before .before .before .loop .col) (p .0 .image .binary),
+      t .loop-test .taken,
+      binary-at (s .args .pixels .now) (s .args .row * s .args .width + t .before .loop .col) (p .0 .image .binary),
       c .before .if2 .taken,
       p .3,
     )
 
 slice-write-next : tie.Need-slice-write-next Inv-loop μ-loop
-slice-write-next c = omega (arith, c .before .before .before .before .before .loop .inv .1 .swept .long)
+slice-write-next c = omega (arith, turn c .before .loop .inv .1 .swept .long)
 
 is-step-requires : tie.Need-is-step-requires Inv-loop μ-loop
 is-step-requires c κs = search needs
 
 add-added : tie.Need-add-added Inv-loop μ-loop
-add-added c = omega (arith, counted-le (c .before .before .before .before .before .before .loop .inv .1 .counted), cell (c .before .before .before .before .before), c .before .before .before .before .before .before .before .before .before .before .before .before .before .pre .0 .mapped)
+add-added c = omega (arith, countable (turn (c .before)))
 
 is-step-requires-2 : tie.Need-is-step-requires-2 Inv-loop μ-loop
 is-step-requires-2 c κs = search needs
 
 add-removed : tie.Need-add-removed Inv-loop μ-loop
-add-removed c = omega (arith, counted-le (c .before .before .before .before .before .before .before .loop .inv .1 .counted), cell (c .before .before .before .before .before .before), c .before .before .before .before .before .before .before .before .before .before .before .before .before .before .pre .0 .mapped)
+add-removed c = omega (arith, countable (turn (c .before .before)))
 
 add-col : tie.Need-add-col Inv-loop μ-loop
 add-col c = search needs
@@ -90,9 +108,10 @@ loop-less c = search needs
 loop-again : tie.Need-loop-again Inv-loop μ-loop
 unfolding walkedAt
 loop-again c =
-    let p = c .before .before .before .before .before .before .before .before .before .before .pre in
-    let j = c .before .before .before .loop .inv .1 in
-    let t = c .before .before .loop-test .taken in (
+    let l = c .before .before in
+    let p = start l .pre in
+    let j = l .before .loop .inv .1 in
+    let t = l .loop-test .taken in (
       search needs,
       ⊎-elim
           (λ w. rw (w .5, w .6, w .7) (judged-more _ _ _ _ _ _ j t (p .2) (w .2 .ensures) (w .3 .ensures .0) (w .4 .ensures .0)))
