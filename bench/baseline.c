@@ -1,4 +1,4 @@
-/* One pass as one would write it at once: the opening map, each translate judged once and spread, then the pixels that are
+/* One pass and the preview as one would write them at once. The pass: the opening map, each translate judged once and spread, then the pixels that are
    not opened, each element with an early exit. A pixel that is opened never changes, since the persistent element is persistent. */
 #include "baseline.h"
 
@@ -74,4 +74,14 @@ void plain_pass(const mask_table *table, size_t width, size_t height, const uint
     counts->passes += changed[0] + changed[1] > 0;
     counts->added += changed[0];
     counts->removed += changed[1];
+}
+
+void plain_preview(size_t width, size_t height, const uint8_t *image, uint8_t *out) {
+    for (size_t y = 0; y < height; y++)
+        for (size_t x = 0; x < width; x++) {
+            int black = 0;
+            for (int dy = -1; dy <= 1; dy++)
+                for (int dx = -1; dx <= 1; dx++) black += image[clamp((int)y + dy, height) * width + clamp((int)x + dx, width)];
+            out[y * width + x] = black >= 5;
+        }
 }

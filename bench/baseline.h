@@ -1,4 +1,4 @@
-/* Two C versions of one pass, to compare the library with. */
+/* Two C versions of one pass and one of the preview, to compare the library with. */
 #ifndef BASELINE_H
 #define BASELINE_H
 
@@ -17,5 +17,8 @@ pass_function plain_pass;
 
 /* Laid out for a vectorising compiler (tuned.c). */
 pass_function tuned_pass;
+
+/* The 3 x 3 median of an image, as one would write it at once (baseline.c). */
+void plain_preview(size_t width, size_t height, const uint8_t *image, uint8_t *out);
 
 #endif
