@@ -7,3 +7,4 @@ pub mod Demand2
 pub mod Demand3
 pub mod Operator
 pub mod Trials
+pub mod Walk

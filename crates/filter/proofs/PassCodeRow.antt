@@ -58,13 +58,17 @@ module _ (es : List ℕ) (w h : ℕ) (px codes : List ℕ) (r : ℕ) where
   unfolding walkedAt
   stays c n = opened-stays es w h codes r c (pixel w px r c) n
 
-  pub judged-more : {d l : List ℕ} {n a b x y v : ℕ} → Judged es w h px codes r d l n a b → n < w → r * w + w ≤ length d → v ≡ walkedAt es w h px codes r n
-      → x ≡ one (eqb (pixel w px r n) 0 && eqb v 1) → y ≡ one (eqb (pixel w px r n) 1 && eqb v 0)
+  -- the pixel is judged by its index
+  pub judged-more : {d l : List ℕ} {n a b x y v : ℕ} → Judged es w h px codes r d l n a b → n < w → r * w + w ≤ length d
+      → v ≡ grid w (walkedAt es w h px codes) (r * w + n) → x ≡ one (eqb (pixel w px r n) 0 && eqb v 1) → y ≡ one (eqb (pixel w px r n) 1 && eqb v 0)
       → Judged es w h px codes r d (set l (r * w + n) v) (n + 1) (a + x) (b + y)
   judged-more {d} {l} {n} {a} {b} {x} {y} {v} s i k e f g = record {
-    swept = sweep-more (r * w + (n + 1)) (s .swept) (omega arith) (omega arith) (e ∙ ap (walkedAt es w h px codes r) (omega arith)) (omega arith);
-    counted = counted-more es w h px codes r (s .counted) i e f g;
+    swept = sweep-more (r * w + (n + 1)) (s .swept) (omega arith) (omega arith) (here ∙ ap (walkedAt es w h px codes r) (omega arith)) (omega arith);
+    counted = counted-more es w h px codes r (s .counted) i here f g;
   }
+    where
+      here : v ≡ walkedAt es w h px codes r n
+      here = e ∙ grid-at w (walkedAt es w h px codes) r n i
 
   -- opened pixels are not counted
   pass-by : (n m : ℕ) {a b : ℕ} → Counted es w h px codes (r * w + n) a b → n + m ≤ w → Opened codes (r * w) n (n + m) → Counted es w h px codes (r * w + (n + m)) a b

@@ -1,5 +1,6 @@
 -- A walk over pixels and opening map.
 --     opened-stays, matched-turns, unmatched-stays      a pixel afterwards, by the tests that the code makes
+--     cell-pixel, cell-walked     a pixel before and after the walk, by its index
 --     counted-none, counted-more, counted-le     counting: the start, one pixel more, and that it is at most the pixels
 -- Assumes nothing.
 use mathlib.Core.Bool.{Bool, true, false, cond, _&&_}
@@ -10,9 +11,10 @@ use native.Mathlib.Omega.{arith}
 use borrow.Author.Tests.{eq-eqb, ne-eqb}
 use lib.Dec.{eqb}
 use lib.ListN.{getD}
+use Rattle.seq.specs.Grid.{Cell}
 use Rattle.seq.specs.Lists.{one, count}
 use Rattle.seq.specs.Tab.{upTo}
-use Rattle.seq.proofs.Grid.{grid-at}
+use Rattle.seq.proofs.Grid.{cell-index, grid-at}
 use Rattle.seq.proofs.Lists.{count-le}
 use Rattle.seq.proofs.Tab.{length-upTo, count-upTo}
 use Rattle.filter.specs.Code.Elements.{matched}
@@ -33,6 +35,15 @@ module _ (es : List ℕ) (w h : ℕ) (codes : List ℕ) (r c v : ℕ) where
     pub unmatched-stays : b ≡ false → v ≡ cond (turns es w h codes r c v) (1 - v) v
     unfolding turns
     unmatched-stays e = simp (eq-eqb _ _ z, ← g, ← m, e)
+
+module _ {w h i r c : ℕ} (k : Cell w h i r c) where
+  pub cell-pixel : (l : List ℕ) → pixel w l r c ≡ getD l i 0
+  cell-pixel l = ap (λ (j : ℕ). getD l j 0) (cell-index k)
+
+  pub cell-walked : (es px codes : List ℕ) {v : ℕ} → v ≡ cond (turns es w h codes r c (getD px i 0)) (1 - getD px i 0) (getD px i 0)
+      → v ≡ walkedAt es w h px codes (i / w) (i % w)
+  unfolding walkedAt
+  cell-walked es px codes e = rw (← k .row, ← k .column, cell-pixel px) e
 
 module _ (es : List ℕ) (w h : ℕ) (px codes : List ℕ) where
   steps-le : (u v n : ℕ) → steps es w h px codes u v n ≤ n

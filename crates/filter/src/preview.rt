@@ -3,13 +3,14 @@ use crate::window;
 use verdict::Verdict;
 ghost use mathlib.Core.List.{[], _∷_};
 ghost use mathlib.Core.Path.{_≡_};
-ghost use Prim.Native.Nat.{_+_, _*_, _≤_, _<_};
-ghost use lib.ListN.{length, getD};
+ghost use Prim.Native.Nat.{_+_, _*_, _/_, _%_, _≤_, _<_};
+ghost use lib.ListN.{length, getD, set};
 ghost use lib.Seq.{sets};
 ghost use Rattle.operator.specs.Image.{IsImage};
 ghost use Rattle.operator.specs.Preview.{fromBits, pattern, fiveOrMore, preview};
 ghost use Rattle.filter.specs.Previewed.{previewVerdict, previewArea};
 ghost use Rattle.operator.specs.Window.{window};
+ghost use Rattle.seq.specs.Grid.{Cell};
 ghost use Rattle.seq.specs.Tab.{tab};
 ghost use Rattle.verdict.specs.Writer.{over};
 
@@ -67,9 +68,26 @@ fn fill_row(width: usize, height: usize, pixels: &[u8], row: usize, area: &mut [
     let start = row * width;
     let mut col = 0;
     while col < width {
-        area[start + col] = answer(window::gather(pixels, width, height, row, col));
+        store(pixels, width, height, start + col, row, col, area);
         col += 1;
     }
+}
+
+// The answer at an index goes to the area. Row and column are those of the index (02, T-03).
+fn store(
+    pixels: &[u8],
+    width: usize,
+    height: usize,
+    index: usize,
+    row: usize,
+    col: usize,
+    area: &mut [u8],
+)
+    requires { ⌜ IsImage width height (now pixels) × Cell width height index row col × (index < length (now area)) ⌝ }
+    ensures { λ r. ⌜ now (area .exit)
+        ≡ set (now (area .entry)) index (fiveOrMore (pattern (window width height (now (pixels .entry)) (index / width) (index % width)))) ⌝ }
+{
+    area[index] = answer(window::gather(pixels, width, height, row, col));
 }
 
 // The median of the nine pixels in the middle of the window.

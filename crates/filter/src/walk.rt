@@ -3,18 +3,19 @@ use crate::elements;
 use crate::opening;
 use crate::window;
 use table::mask::POSITIONS;
-ghost use mathlib.Core.Bool.{true, false, cond, _&&_};
+ghost use mathlib.Core.Bool.{true, false, _&&_};
 ghost use mathlib.Core.Path.{_≡_};
-ghost use Prim.Native.Nat.{_+_, _-_, _*_, _≤_, _<_};
+ghost use Prim.Native.Nat.{_+_, _-_, _*_, _/_, _%_, _≤_, _<_};
 ghost use lib.Dec.{eqb};
-ghost use lib.ListN.{length};
+ghost use lib.ListN.{length, getD};
 ghost use Rattle.filter.specs.Code.Elements.{Shared};
 ghost use Rattle.operator.specs.Image.{pixel};
-ghost use Rattle.filter.specs.Code.Walk.{Walkable, Opened, Copied, turns, walkedAt, walked, Counted};
+ghost use Rattle.filter.specs.Code.Walk.{Walkable, Opened, Copied, walkedAt, walked, Counted};
 ghost use Rattle.operator.specs.Window.{siteRow, siteCol};
-ghost use Rattle.seq.specs.Lists.{all, one};
+ghost use Rattle.seq.specs.Grid.{Cell};
+ghost use Rattle.seq.specs.Lists.{one};
 ghost use Rattle.seq.specs.Loops.{Swept};
-ghost use Rattle.table.specs.Mask.{positionCount, validMask};
+ghost use Rattle.table.specs.Mask.{positionCount};
 ghost use Rattle.verdict.specs.Writer.{over};
 
 const WHITE: u8 = 0;
@@ -99,7 +100,7 @@ fn walk_row(
         let at = start + col;
         if map[at] == NEITHER {
             let value = pixels[at];
-            let after = judged(elements, shared, width, height, map, row, col, value);
+            let after = judged(elements, shared, width, height, pixels, map, at, row, col);
             next[at] = after;
             added += is_step(value, after, WHITE, BLACK);
             removed += is_step(value, after, BLACK, WHITE);
@@ -126,21 +127,23 @@ fn is_opened(map: &[u8], start: usize, width: usize) -> bool
     least != NEITHER
 }
 
-// The pixel afterwards, where it is opened for neither value.
+// The pixel at an index afterwards, where it is opened for neither value. Row and column are those of the index (02, T-03).
 fn judged(
     elements: &[u32],
     shared: usize,
     width: usize,
     height: usize,
+    pixels: &[u8],
     map: &[u8],
+    index: usize,
     row: usize,
     col: usize,
-    value: u8,
 ) -> u8
-    requires { ⌜ (all validMask (now elements) ≡ true) × (length (now map) ≡ width * height) × (row < height) × (col < width) × (value ≤ 1)
-        × (pixel width (now map) row col ≡ 0) × Shared (now elements) shared ⌝ }
-    ensures { λ r. ⌜ r ≡ cond (turns (now (elements .entry)) width height (now (map .entry)) row col value) (1 - value) value ⌝ }
+    requires { ⌜ Walkable (now elements) width height (now pixels) (now map) × Shared (now elements) shared × Cell width height index row col
+        × (getD (now map) index 0 ≡ 0) ⌝ }
+    ensures { λ r. ⌜ r ≡ walkedAt (now (elements .entry)) width height (now (pixels .entry)) (now (map .entry)) (index / width) (index % width) ⌝ }
 {
+    let value = pixels[index];
     let wanted = OPENED_BLACK - value;
     if is_missed(map, width, height, row, col, shared, wanted) {
         return value;

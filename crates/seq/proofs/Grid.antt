@@ -4,8 +4,11 @@
 --     index-row                the row of an index below w · h is below h
 --     next-column, next-row    the index one column on, and the index one row on
 --     cell-below, row-below    a cell and a whole row of h rows lie below w · h
+--     cell-at                  a walk that carries r and c is at the cell of the index r · w + c
+--     cell-index, cell-sides   the index of a cell, and that row and column are within the grid
 --     by-cell                  what holds at every row and column holds at every index
 --     grid-at                  the table at the index r · w + c is g r c
+--     cell-tab                 and so is the list of it at a cell
 --     grid-row                 the rows before r, and row r, are the rows before r + 1
 --     fill-cell, fill-row      a list that is filled row by row: one cell more, one row more
 --     stored-row               the same for a run of stores that starts anywhere
@@ -19,13 +22,14 @@ use Prim.Native.Nat.{ℕ, zero, suc, _+_, _*_, _/_, _%_, _≤_, _<_}
 use native.Mathlib.Nat.{zero-mul, mul-comm, mul-le-mul-right, div-lt-iff-lt-mul, mod-lt, div-add-mod'}
 use native.Mathlib.Omega.{arith}
 use lib.Arith.{digits-div, digits-mod, digits-lt}
-use lib.ListN.{length, set}
+use lib.ListN.{length, getD, set}
 use lib.Seq.{sets}
+use Rattle.seq.specs.Grid.{Cell}
 use Rattle.seq.specs.Lists.{isSome}
 use Rattle.seq.specs.Tab.{tab, first, Filled}
 use Rattle.seq.proofs.Notes.{first-some}
 use Rattle.seq.proofs.Stores.{tab-add, Stored, stored-run, fill-run}
-use Rattle.seq.proofs.Tab.{tab-ext, fill-more, first-at, first-none, first-found, first-nothing, Found}
+use Rattle.seq.proofs.Tab.{getD-tab, tab-ext, fill-more, first-at, first-none, first-found, first-nothing, Found}
 
 abbrev pub grid {ℓ} : {A : Type ℓ} → ℕ → (ℕ → ℕ → A) → ℕ → A
 grid w g i = g (i / w) (i % w)
@@ -56,15 +60,31 @@ factor-pos : (i w h : ℕ) → i < w * h → 0 < w
 factor-pos i zero h p = omega (arith, zero-mul h)
 factor-pos i (suc w) h p = omega arith
 
+module _ {w h r c : ℕ} where
+  pub cell-at : r < h → c < w → Cell w h (r * w + c) r c
+  cell-at p q = record { row = sym (cell-row r q); column = sym (cell-column r q); below = cell-below p q }
+
+  module _ {i : ℕ} (k : Cell w h i r c) where
+    pub cell-index : r * w + c ≡ i
+    cell-index = rw (k .row, k .column) (div-add-mod' i w)
+
+    pub cell-sides : (r < h) × (c < w)
+    cell-sides =
+        let pos : 0 < w = factor-pos i w h (k .below) in
+        (rw (k .row) (index-row i w h pos (k .below)), rw (k .column) (mod-lt i pos))
+
 -- an index is that of its row and column
 pub by-cell {ℓ} : (w h : ℕ) (P : ℕ → Type ℓ) → ((r c : ℕ) → r < h → c < w → P (r * w + c)) → (i : ℕ) → i < w * h → P i
 by-cell w h P f i l =
-    let pos : 0 < w = factor-pos i w h l in
-    subst P (div-add-mod' i w) (f (i / w) (i % w) (index-row i w h pos l) (mod-lt i pos))
+    let k : Cell w h i (i / w) (i % w) = record { row = refl; column = refl; below = l } in
+    subst P (cell-index k) (f (i / w) (i % w) (cell-sides k .0) (cell-sides k .1))
 
 module _ {ℓ} {A : Type ℓ} (w : ℕ) (g : ℕ → ℕ → A) where
   pub grid-at : (r c : ℕ) → c < w → grid w g (r * w + c) ≡ g r c
   grid-at r c h = ap₂ g (cell-row r h) (cell-column r h)
+
+  pub cell-tab : {h i r c : ℕ} (d : A) → Cell w h i r c → getD (tab (grid w g) (w * h)) i d ≡ g r c
+  cell-tab {h} {i} d k = getD-tab (grid w g) (w * h) i d (k .below) ∙ sym (ap₂ g (k .row) (k .column))
 
   pub grid-row : (r : ℕ) → tab (grid w g) ((r + 1) * w) ≡ tab (grid w g) (r * w) ++ tab (g r) w
   grid-row r =

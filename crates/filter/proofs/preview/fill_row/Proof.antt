@@ -1,14 +1,11 @@
 -- `filter::preview::fill_row` meets its contract. Assumes nothing.
-use mathlib.Core.List.{List}
-use mathlib.Core.Path.{ap, _∙_}
-use Prim.Native.Nat.{ℕ, _-_, _≤_, zero-le}
+use Prim.Native.Nat.{_-_, _≤_, zero-le}
 use native.Mathlib.Nat.{le-antisymm}
 use native.Mathlib.Omega.{arith}
 use borrow.Author.Needs.{needs}
+use Rattle.seq.proofs.Grid.{cell-at, grid-at}
 use Rattle.seq.proofs.Stores.{Stored, stored-none, stored-more, stored-length, stored-all}
-use Rattle.operator.specs.Preview.{pattern, fiveOrMore}
 use Rattle.filter.proofs.PreviewLaws.{medianAt}
-use Rattle.operator.proofs.Pattern.{pattern-lt}
 use Rattle.filter.proofs.preview.fill_row.Statement.{statement}
 use Rattle.filter.proofs.preview.fill_row.Tie as tie
 
@@ -24,17 +21,14 @@ mul-start c = search needs
 loop-holds : tie.Need-loop-holds Inv-loop μ-loop
 loop-holds c = (zero-le, stored-none _ _ _)
 
-gather-requires : tie.Need-gather-requires Inv-loop μ-loop
-gather-requires c κs = search needs
+add-store : tie.Need-add-store Inv-loop μ-loop
+add-store c = search needs
 
-answer-requires : tie.Need-answer-requires Inv-loop μ-loop
-answer-requires c κs = rw (c .gather .ensures) (pattern-lt _ _ _ _ _ (c .before .before .before .before .before .pre .0 .binary))
-
-add-area : tie.Need-add-area Inv-loop μ-loop
-add-area c = search needs
-
-slice-write-area : tie.Need-slice-write-area Inv-loop μ-loop
-slice-write-area c = omega (arith, stored-length (c .before .before .before .loop .inv .1))
+store-requires : tie.Need-store-requires Inv-loop μ-loop
+store-requires c κs =
+    let t = c .before in
+    let p = t .before .before .before .before .pre in
+    (p .0, cell-at (p .1) (t .loop-test .taken), omega (arith, stored-length (t .before .loop .inv .1)))
 
 add-col : tie.Need-add-col Inv-loop μ-loop
 add-col c = search needs
@@ -43,11 +37,10 @@ loop-less : tie.Need-loop-less Inv-loop μ-loop
 loop-less c = search needs
 
 loop-again : tie.Need-loop-again Inv-loop μ-loop
-loop-again c = (
-  search needs,
-  stored-more (c .before .before .before .loop .inv .1)
-      (c .answer .ensures ∙ ap (λ (win : List (List ℕ)). fiveOrMore (pattern win)) (c .before .gather .ensures)),
-)
+loop-again c =
+    let s = c .before .before in
+    let t = s .before .before in
+    (search needs, rw (s .store .ensures) (stored-more (t .before .loop .inv .1) (grid-at _ (medianAt _ _ _) _ _ (t .loop-test .taken))))
 
 same-length : tie.Need-same-length Inv-loop μ-loop
 same-length c = stored-length (c .before .loop .inv .1)
@@ -63,10 +56,8 @@ fill-row-spec =
     μ-loop
     mul-start
     loop-holds
-    gather-requires
-    answer-requires
-    add-area
-    slice-write-area
+    add-store
+    store-requires
     add-col
     loop-less
     loop-again

@@ -6,11 +6,10 @@ use native.Mathlib.Nat.{le-antisymm}
 use native.Mathlib.Omega.{arith}
 use borrow.Author.Needs.{needs}
 use lib.ListN.{length}
-use Rattle.seq.proofs.Grid.{cell-below, row-below, next-row}
-use Rattle.filter.specs.Code.Walk.{walkedAt}
+use Rattle.seq.specs.Grid.{Cell}
+use Rattle.seq.proofs.Grid.{row-below, next-row, cell-at}
 use Rattle.filter.proofs.PassCodeRow.{opened-none, opened-more, Judged, judged-none, judged-skip, judged-more}
 use Rattle.filter.proofs.PassCodeWalk.{counted-le}
-use Rattle.image.proofs.PixelsOf.{binary-at}
 use Rattle.filter.proofs.walk.walk_row.Statement.{statement}
 use Rattle.filter.proofs.walk.walk_row.Tie as tie
 
@@ -31,18 +30,19 @@ start c = lent (c .before .before .before .before)
 abbrev turn : tie.After-judged Inv-loop μ-loop → tie.In-loop Inv-loop μ-loop
 turn c = c .before .before .before .before
 
--- the pixel at hand lies within image and map
-within : (c : tie.In-loop Inv-loop μ-loop)
-    → start c .args .row * start c .args .width + c .before .loop .col < start c .args .width * start c .args .height
-within c = cell-below (start c .pre .1) (c .loop-test .taken)
+-- row and column are those of the pixel at hand
+cell : (c : tie.In-loop Inv-loop μ-loop)
+    → let a = start c .args in
+    Cell (a .width) (a .height) (a .row * a .width + c .before .loop .col) (a .row) (c .before .loop .col)
+cell c = cell-at (start c .pre .1) (c .loop-test .taken)
 
--- so there is room for one count more
+-- there is room for one count more
 countable : (c : tie.In-loop Inv-loop μ-loop)
     → (c .before .loop .added < length (start c .args .map .now)) × (c .before .loop .removed < length (start c .args .map .now))
 countable c =
     let few = counted-le (c .before .loop .inv .1 .counted) in
     let mapped = start c .pre .0 .mapped in
-    (omega (arith, few, within c, mapped), omega (arith, few, within c, mapped))
+    (omega (arith, few, cell c, mapped), omega (arith, few, cell c, mapped))
 
 mul-start : tie.Need-mul-start Inv-loop μ-loop
 mul-start c = search needs
@@ -65,24 +65,16 @@ add-at : tie.Need-add-at Inv-loop μ-loop
 add-at c = search needs
 
 shared-slice-read-if2 : tie.Need-shared-slice-read-if2 Inv-loop μ-loop
-shared-slice-read-if2 c = rw (start (c .before) .pre .0 .mapped) (within (c .before))
+shared-slice-read-if2 c = rw (start (c .before) .pre .0 .mapped) (cell (c .before) .below)
 
 shared-slice-read-value : tie.Need-shared-slice-read-value Inv-loop μ-loop
-shared-slice-read-value c = let t = c .before .before .before in rw (start t .pre .0 .image .sized) (within t)
+shared-slice-read-value c = let t = c .before .before .before in rw (start t .pre .0 .image .sized) (cell t .below)
 
 judged-requires : tie.Need-judged-requires Inv-loop μ-loop
 judged-requires c κs =
     let t = c .before .before .before in
-    let s = start t in
-    let p = s .pre in (
-      p .0 .valid,
-      p .0 .mapped,
-      p .1,
-      t .loop-test .taken,
-      binary-at (s .args .pixels .now) (s .args .row * s .args .width + t .before .loop .col) (p .0 .image .binary),
-      c .before .if2 .taken,
-      p .3,
-    )
+    let p = start t .pre in
+    (p .0, p .3, cell t, c .before .if2 .taken)
 
 slice-write-next : tie.Need-slice-write-next Inv-loop μ-loop
 slice-write-next c = omega (arith, turn c .before .loop .inv .1 .swept .long)
@@ -106,7 +98,6 @@ loop-less : tie.Need-loop-less Inv-loop μ-loop
 loop-less c = search needs
 
 loop-again : tie.Need-loop-again Inv-loop μ-loop
-unfolding walkedAt
 loop-again c =
     let l = c .before .before in
     let p = start l .pre in
