@@ -1,5 +1,6 @@
-/* One pass and the preview as one would write them at once. The pass: the opening map, each translate judged once and spread, then the pixels that are
-   not opened, each element with an early exit. A pixel that is opened never changes, since the persistent element is persistent. */
+/* One pass and the preview as one would write them at once. The pass: the opening map, each translate judged once and
+   spread, then the pixels that are not opened, each element with an early exit. A pixel that is opened never changes, since
+   the persistent element is persistent. */
 #include "baseline.h"
 
 #include <string.h>
