@@ -3,41 +3,18 @@
 --     header-kept                 a file with a strict header is the header of its size, and its raster
 -- Assumes nothing.
 use mathlib.Core.Bool.{true, false, _&&_}
-use mathlib.Core.List.{List, [], _∷_, _++_, append-assoc}
+use mathlib.Core.List.{List, _∷_, _++_, append-assoc}
 use mathlib.Core.Path.{_≡_, refl, sym, ap, _∙_}
 use Prim.Native.Nat.{ℕ, _+_, _<_}
-use native.Mathlib.Nat.{not-suc-le-zero}
-use native.Mathlib.Numerals.{add-one}
 use native.Mathlib.Omega.{arith}
 use borrow.Author.Tests.{eqb-true}
 use lib.Dec.{eqb}
 use lib.ListN.{length, getD, take, drop}
-use lib.Seq.{take-at, getD-at, drop-append-add, split-at}
 use Rattle.image.specs.Header.{space, lineFeed, isDigit, digits, decimalValue, strict, widthPart, heightPart, raster, startsMagic, after, headerForm, widthOf, heightOf, decimal, header}
-use Rattle.image.proofs.Canonical.{digits-append, digits-take, strict-front, decimal-digits, decimal-strict, decimal-back, canonical}
+use Rattle.image.proofs.Canonical.{decimal-digits, decimal-strict, decimal-back, canonical}
+use Rattle.image.proofs.HeaderParts.{parts, magic-split, number-split, digits-only, after-digits, Pieces, laid, laid-out}
 use Rattle.image.proofs.NumberAt.{byte-within}
 use Rattle.seq.proofs.Lists.{and-left, and-right}
-
--- the digits ds, the byte b that ends them, and the rest t, as a reader of the bytes finds them
-record Parts (bytes ds : List ℕ) (b : ℕ) (t : List ℕ) : Type 0 where
-  front : take (digits bytes) bytes ≡ ds
-  form : strict bytes ≡ strict ds
-  stop : after bytes ≡ b
-  rest : drop (digits bytes + 1) bytes ≡ t
-
-parts : (ds : List ℕ) (b : ℕ) (t : List ℕ) → digits ds ≡ length ds → isDigit b ≡ false → Parts (ds ++ b ∷ t) ds b t
-parts ds b t e n =
-    let c : digits (ds ++ b ∷ t) ≡ length ds = digits-append ds b t e n in
-    record {
-      front = take-at ds (b ∷ t) (digits (ds ++ b ∷ t)) (sym c);
-      form = strict-front ds b t e c;
-      stop = getD-at ds b t 0 (digits (ds ++ b ∷ t)) (sym c);
-      rest = rw c (drop-append-add ds (b ∷ t) 1);
-    }
-
-laid-out : (w h : ℕ) (r : List ℕ) → header w h ++ r ≡ 0x50 ∷ 0x34 ∷ 0x0A ∷ (decimal w ++ space ∷ (decimal h ++ lineFeed ∷ r))
-unfolding header
-laid-out w h r = simp append-assoc
 
 pub record HeaderRead (f : List ℕ) (w h : ℕ) (r : List ℕ) : Type 0 where
   pub form : headerForm f ≡ true
@@ -45,30 +22,42 @@ pub record HeaderRead (f : List ℕ) (w h : ℕ) (r : List ℕ) : Type 0 where
   pub height : heightOf f ≡ h
   pub rest : raster f ≡ r
 
-module _ (w h : ℕ) (r : List ℕ) (narrow : w < 1000) (short : h < 1000) where
-  -- what follows `P4` and line feed, and what follows the width
-  abbrev tail : List ℕ
-  tail = decimal w ++ space ∷ (decimal h ++ lineFeed ∷ r)
+space-none : isDigit space ≡ false
+unfolding isDigit
+space-none = refl
 
-  abbrev end : List ℕ
-  end = decimal h ++ lineFeed ∷ r
+feed-none : isDigit lineFeed ≡ false
+unfolding isDigit
+feed-none = refl
 
-  first : Parts tail (decimal w) space end
-  unfolding isDigit
-  first = parts (decimal w) space end (decimal-digits w) refl
+abbrev headerPieces : ℕ → ℕ → Pieces
+headerPieces w h = record {
+  m₀ = 0x50;
+  m₁ = 0x34;
+  m₂ = 0x0A;
+  wide = decimal w;
+  stop = space;
+  high = decimal h;
+  end = lineFeed;
+  wide-digits = decimal-digits w;
+  stop-none = space-none;
+  high-digits = decimal-digits h;
+  end-none = feed-none;
+}
 
-  second : Parts end (decimal h) lineFeed r
-  unfolding isDigit
-  second = parts (decimal h) lineFeed r (decimal-digits h) refl
+header-laid : (w h : ℕ) (r : List ℕ) → header w h ++ r ≡ laid (headerPieces w h) r
+unfolding header
+header-laid w h r = simp append-assoc
 
-  pub header-back : HeaderRead (header w h ++ r) w h r
-  unfolding headerForm startsMagic widthOf heightOf widthPart heightPart raster
-  header-back = rw (laid-out w h r) (record {
-    form = simp (first .form, decimal-strict w narrow, first .stop, first .rest, second .form, decimal-strict h short, second .stop);
-    width = simp (first .front) (decimal-back w narrow);
-    height = simp (first .rest, second .front) (decimal-back h short);
-    rest = simp (first .rest) (second .rest);
-  })
+pub header-back : (w h : ℕ) (r : List ℕ) → w < 1000 → h < 1000 → HeaderRead (header w h ++ r) w h r
+header-back w h r narrow short =
+    let read = laid-out (headerPieces w h) r in
+    rw (header-laid w h r) (record {
+      form = read .form ∙ rw (decimal-strict w narrow, decimal-strict h short);
+      width = read .width ∙ decimal-back w narrow;
+      height = read .height ∙ decimal-back h short;
+      rest = read .rest;
+    })
 
 -- strict digits and the byte that ends them are the digits of their number, that byte, and the rest
 number-kept : (bytes : List ℕ) (stop : ℕ) → strict bytes ≡ true → after bytes ≡ stop → 0 < stop
@@ -77,10 +66,10 @@ number-kept bytes stop s a pos =
     let ds = take (digits bytes) bytes in
     let t = drop (digits bytes + 1) bytes in
     let inside : digits bytes < length bytes = byte-within bytes (digits bytes) (omega arith) in
-    let whole : bytes ≡ ds ++ stop ∷ t = rw (add-one, ← a) (split-at bytes (digits bytes) 0 inside) in
-    let only : digits ds ≡ length ds = digits-take bytes .0 ∙ sym (digits-take bytes .1) in
-    let count : digits (ds ++ stop ∷ t) ≡ length ds = ap digits (sym whole) ∙ sym (digits-take bytes .1) in
-    let form : strict ds ≡ true = sym (strict-front ds stop t only count) ∙ ap strict (sym whole) ∙ s in
+    let whole : bytes ≡ ds ++ stop ∷ t = rw (← a) (number-split bytes inside) in
+    let only = digits-only bytes in
+    let none : isDigit stop ≡ false = rw (← a) (after-digits bytes) in
+    let form : strict ds ≡ true = sym (parts ds stop t only none .form) ∙ ap strict (sym whole) ∙ s in
     ap (λ (l : List ℕ). l ++ stop ∷ t) (canonical ds only form) ∙ sym whole
 
 -- a file that starts with `P4` and line feed
@@ -92,13 +81,7 @@ magic-kept f e =
     let b = eqb-true (getD f 1 0) 0x34 (and-left (eqb (getD f 1 0) 0x34) _ e′) in
     let c = eqb-true (getD f 2 0) 0x0A (and-right (eqb (getD f 1 0) 0x34) _ e′) in
     let inside : 2 < length f = byte-within f 2 (omega arith) in
-    rw (← a, ← b, ← c) (split f inside)
-  where
-    split : (f : List ℕ) → 2 < length f → getD f 0 0 ∷ getD f 1 0 ∷ getD f 2 0 ∷ drop 3 f ≡ f
-    split [] h = absurd (not-suc-le-zero h)
-    split (x ∷ []) h = absurd (omega arith)
-    split (x ∷ y ∷ []) h = absurd (omega arith)
-    split (x ∷ y ∷ z ∷ f) h = refl
+    rw (← a, ← b, ← c) (magic-split f inside)
 
 pub header-kept : (f : List ℕ) → headerForm f ≡ true → header (widthOf f) (heightOf f) ++ raster f ≡ f
 unfolding headerForm widthOf heightOf raster heightPart
@@ -108,6 +91,6 @@ header-kept f e =
     let h = and-right (strict (widthPart f) && eqb (after (widthPart f)) space) _ numbers in
     let height = number-kept (heightPart f) lineFeed (and-left (strict (heightPart f)) _ h) (eqb-true _ _ (and-right (strict (heightPart f)) _ h)) (omega arith) in
     let width = number-kept (widthPart f) space (and-left (strict (widthPart f)) _ w) (eqb-true _ _ (and-right (strict (widthPart f)) _ w)) (omega arith) in
-    laid-out (widthOf f) (heightOf f) (raster f)
+    header-laid (widthOf f) (heightOf f) (raster f)
     ∙ ap (λ (t : List ℕ). 0x50 ∷ 0x34 ∷ 0x0A ∷ t) (ap (λ (t : List ℕ). decimal (widthOf f) ++ space ∷ t) height ∙ width)
     ∙ magic-kept f (and-left (startsMagic f) _ e)

@@ -16,6 +16,7 @@ pub mod Decimal
 pub mod HeaderWritten
 pub mod WriteOf
 pub mod Canonical
+pub mod HeaderParts
 pub mod HeaderBack
 pub mod RasterBack
 pub mod RoundTrip

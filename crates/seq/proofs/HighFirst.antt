@@ -6,12 +6,13 @@
 --     bits-zeros        m zeros at the end are a factor 2 ^ m
 --     bits-back         the bits of a number below 2 ^ n make that number
 --     low-zero          below a factor 2 ^ m every bit is 0
+--     clear-low, clear-high     a number without its last m bits: these are 0, and the others are as they were
 -- Assumes nothing.
 use mathlib.Core.Path.{_≡_, sym, ap, _∙_}
 use Prim.Native.Nat.{ℕ, zero, suc, _+_, _-_, _*_, _/_, _%_, _^_, _≤_, _<_}
-use native.Mathlib.Nat.{add-zero, add-suc, sub-zero, sub-self, mul-one, mul-assoc, pow-zero, pow-suc, pow-succ', zero-div, div-one, div-eq-of-lt, div-div-eq-div-mul}
+use native.Mathlib.Nat.{add-zero, add-suc, sub-zero, sub-self, mul-one, mul-assoc, mul-mod-left, pow-zero, pow-suc, pow-succ', zero-div, div-one, div-eq-of-lt, div-div-eq-div-mul}
 use native.Mathlib.Omega.{arith}
-use lib.Pow.{field, mod-mod-pow}
+use lib.Pow.{split, field, mod-mod-pow, shl-shr, shr-shr}
 
 unfoldable pub bitsValue : (ℕ → ℕ) → ℕ → ℕ
 bitsValue v zero = 0
@@ -67,3 +68,19 @@ low-zero b m k e h =
     let z : b / 2 ^ k % 2 ^ (m - k) ≡ 0 =
     sym (field b (m - k) k) ∙ ap (λ (x : ℕ). x / 2 ^ k) (ap (λ (j : ℕ). b % 2 ^ j) (sym a) ∙ e) ∙ zero-div (2 ^ k) in
     sym (mod-mod-pow (b / 2 ^ k) (m - k - 1) 1) ∙ ap (λ (x : ℕ). x % 2) (ap (λ (j : ℕ). b / 2 ^ k % 2 ^ j) (sym c) ∙ z)
+
+module _ (b m : ℕ) where
+  high : b - b % 2 ^ m ≡ b / 2 ^ m * 2 ^ m
+  high = omega (arith, split b m)
+
+  pub clear-low : (b - b % 2 ^ m) % 2 ^ m ≡ 0
+  clear-low = ap (λ (x : ℕ). x % 2 ^ m) high ∙ mul-mod-left (b / 2 ^ m) (2 ^ m)
+
+  pub clear-high : (j : ℕ) → m ≤ j → (b - b % 2 ^ m) / 2 ^ j ≡ b / 2 ^ j
+  clear-high j h =
+      let e : j ≡ m + (j - m) = omega arith in
+      ap (λ (i : ℕ). (b - b % 2 ^ m) / 2 ^ i) e
+      ∙ sym (shr-shr (b - b % 2 ^ m) m (j - m))
+      ∙ ap (λ (x : ℕ). x / 2 ^ (j - m)) (ap (λ (x : ℕ). x / 2 ^ m) high ∙ shl-shr (b / 2 ^ m) m)
+      ∙ shr-shr b m (j - m)
+      ∙ ap (λ (i : ℕ). b / 2 ^ i) (sym e)
