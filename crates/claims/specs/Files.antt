@@ -1,6 +1,7 @@
--- 01, demand 2: tables and sheets written and read back are the same, and accepted files written back have the same bytes.
+-- 01, demand 2: tables and sheets written and read back are the same, and accepted files written back have the same bytes; a sheet's with zeros in
+-- its unused bits.
 --     table-back, table-file-back, table-read-checked     tables
---     image-accepted, image-size, image-back, image-file-back, image-read-checked     images
+--     image-accepted, image-size, image-back, image-written-zero, image-file-cleared, image-file-back, image-read-checked     images
 -- Assumes nothing.
 use mathlib.Core.Bool.{true}
 use mathlib.Core.List.{List}
@@ -11,6 +12,7 @@ use lib.Pow.{areBytes}
 use Rattle.image.proofs.RoundTrip.{image-round-trip}
 use Rattle.image.specs.File as image
 use Rattle.image.specs.Header.{widthOf, heightOf}
+use Rattle.image.specs.Padding.{unusedZero, cleared}
 use Rattle.table.proofs.RoundTrip.{table-round-trip}
 use Rattle.table.specs.declared.Table.{Table}
 use Rattle.table.specs.File.{tableOf, fileVerdict, tableBytes}
@@ -37,7 +39,14 @@ module _ (w h : ℕ) (px : List ℕ) (ok : image.pixelVerdict w h px ≡ Accepte
   pub image-back : image.imageOf (image.imageBytes w h px) ≡ px
   image-back = image-round-trip .image-back w h px ok .pixels
 
-pub image-file-back : (f : List ℕ) → areBytes f ≡ true → image.fileVerdict f ≡ Accepted
+  pub image-written-zero : unusedZero (image.imageBytes w h px) ≡ true
+  image-written-zero = image-round-trip .written-zero w h px ok
+
+pub image-file-cleared : (f : List ℕ) → areBytes f ≡ true → image.fileVerdict f ≡ Accepted
+    → image.imageBytes (widthOf f) (heightOf f) (image.imageOf f) ≡ cleared f
+image-file-cleared = image-round-trip .file-cleared
+
+pub image-file-back : (f : List ℕ) → areBytes f ≡ true → image.fileVerdict f ≡ Accepted → unusedZero f ≡ true
     → image.imageBytes (widthOf f) (heightOf f) (image.imageOf f) ≡ f
 image-file-back = image-round-trip .file-back
 

@@ -2,8 +2,9 @@
 -- Assumes nothing.
 use mathlib.Core.Path.{refl}
 use Rattle.image.specs.Cases.{Cases}
-use Rattle.image.specs.File.{paddingSet, fileVerdict, imageVerdict, pixelVerdict, rowByte, imageBytes, writeVerdict}
+use Rattle.image.specs.File.{fileVerdict, imageVerdict, pixelVerdict, rowByte, imageBytes, writeVerdict}
 use Rattle.image.specs.Header.{isDigit, decimalValue, strict, widthPart, heightPart, raster, startsMagic, headerForm, widthOf, heightOf, decimal, header}
+use Rattle.image.specs.Padding.{paddingSet}
 use Rattle.image.specs.Size.{within, badSize, rowBytes}
 
 pub cases-met : Cases

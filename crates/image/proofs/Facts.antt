@@ -13,8 +13,9 @@ use borrow.Author.Tests.{not-false, eqb-true, eq-eqb, le-leb}
 use lib.Dec.{leb, eqb}
 use lib.ListN.{length}
 use Rattle.image.specs.Code.Rows.{Sides}
-use Rattle.image.specs.File.{rasterPixel, pixelsOf, paddingSet, fileVerdict, imageOf}
+use Rattle.image.specs.File.{rasterPixel, pixelsOf, fileVerdict, imageOf}
 use Rattle.image.specs.Header.{raster, headerForm, widthOf, heightOf}
+use Rattle.image.specs.Padding.{paddingSet}
 use Rattle.image.specs.Size.{badSize, rowBytes}
 use Rattle.image.proofs.RowBytes.{sides}
 use Rattle.seq.proofs.Grid.{grid}

@@ -15,8 +15,9 @@ use lib.ListN.{length, take, drop, length-drop}
 use Rattle.image.specs.declared.header.Header.the-variants as header
 use Rattle.image.specs.declared.layout.Layout.the-variants as layout
 use Rattle.image.specs.Code.Layout.{rasterStart, headerIf, headerOf, layoutIf, layoutOf}
-use Rattle.image.specs.File.{paddingSet, fileVerdict}
+use Rattle.image.specs.File.{fileVerdict}
 use Rattle.image.specs.Header.{digits, strict, after, widthPart, heightPart, startsMagic, headerForm, widthOf, heightOf, space, lineFeed}
+use Rattle.image.specs.Padding.{paddingSet}
 use Rattle.image.specs.Size.{badSize, rowBytes}
 use Rattle.image.proofs.HeaderOf.{height-place, raster-part}
 use Rattle.image.proofs.NumberAt.{byte-within}

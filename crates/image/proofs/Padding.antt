@@ -1,30 +1,94 @@
--- The search for an unused bit that is set, row by row.
+-- The laws of unused bits, and the search for one that is set, row by row.
+--     used-kept, unused-zero     with zeros in the unused bits of a byte, a bit that stands for a pixel is as it was, and one that does not is 0
+--     cleared-below              and the byte is at most what it was
+--     none-set                   where none of a file's is 1, no row has one
+--     cleared-same               and the raster with zeros in them is that raster
 --     padding-unit       a power of two for the unused bits, as a shift of a byte makes it
 --     Padded             where the loop stands: the place of the row's last byte, and no unused bit set in a row passed
 --     padded-none, padded-more       its start and a turn
 --     padded-within      the last byte lies in the raster
 --     padded-found, padded-all       what the search finds: this row; none
 -- Assumes nothing.
-use mathlib.Core.Bool.{false}
+use mathlib.Core.Bool.{Bool, true, false, cond}
 use mathlib.Core.List.{List}
-use mathlib.Core.Path.{_≡_, sym, _∙_}
-use Prim.Native.Nat.{ℕ, _+_, _-_, _*_, _^_, _%_, _≤_, _<_}
+use mathlib.Core.Logic.{⊎-elim}
+use mathlib.Core.Path.{_≡_, sym, ap, _∙_}
+use Prim.Native.Nat.{ℕ, _+_, _-_, _*_, _/_, _^_, _%_, _≤_, _<_}
 use native.Mathlib.Nat.{one-mul}
 use native.Mathlib.Omega.{arith}
 use borrow.Author.Count.{below-none, below-more}
-use borrow.Author.Tests.{eq-eqb, ne-eqb}
+use borrow.Author.Tests.{eqb-true, eq-eqb, ne-eqb, not-false}
 use lib.Bits.{bitAnd, and-mask}
+use lib.Dec.{eqb}
 use lib.ListN.{length, getD}
 use lib.Pow.{shl-exact}
 use Rattle.image.specs.Code.Rows.{Sides}
-use Rattle.image.specs.File.{paddingSet}
+use Rattle.image.specs.Header.{raster, widthOf, heightOf}
+use Rattle.image.specs.Padding.{unused, paddingSet, unusedZero, clearedByte}
 use Rattle.image.specs.Size.{rowBytes}
 use Rattle.image.proofs.RowBytes.{row-bytes-fit}
-use Rattle.seq.proofs.Grid.{cell-below}
-use Rattle.seq.proofs.Tab.{first-at, first-none}
-use Rattle.seq.specs.Tab.{first}
+use Rattle.seq.proofs.Grid.{cell-column, cell-below, by-cell}
+use Rattle.seq.proofs.HighFirst.{low-zero, clear-low, clear-high}
+use Rattle.seq.proofs.Lists.{either, not-eq-true}
+use Rattle.seq.proofs.Members.{any-false}
+use Rattle.seq.proofs.Tab.{tab-of, upTo-intro, first-at, first-none}
+use Rattle.seq.specs.Tab.{tab, first}
 use Rattle.verdict.specs.declared.Verdict.the-variants.{Accepted, Refused}
 use Rattle.verdict.specs.Rules.{refusal, refuseAt}
+
+module _ (w : ℕ) (r : List ℕ) where
+  -- byte j of a row, which is the last or another
+  module _ (row j : ℕ) (within : j < rowBytes w) where
+    abbrev i : ℕ
+    i = row * rowBytes w + j
+
+    by-place : (t : Bool) → eqb j (rowBytes w - 1) ≡ t → clearedByte w r i ≡ cond t (getD r i 0 - getD r i 0 % 2 ^ unused w) (getD r i 0)
+    unfolding clearedByte
+    by-place t e =
+        ap (λ (b : Bool). cond b (getD r i 0 - getD r i 0 % 2 ^ unused w) (getD r i 0))
+        (ap (λ (m : ℕ). eqb m (rowBytes w - 1)) (cell-column row within) ∙ e)
+
+    pub used-kept : (k : ℕ) → k < 8 → 8 * j + k < w → clearedByte w r i / 2 ^ (7 - k) ≡ getD r i 0 / 2 ^ (7 - k)
+    used-kept k l b =
+        ⊎-elim (λ e. rw (by-place true e)
+        (clear-high (getD r i 0) (unused w) (7 - k) (omega (arith, row-bytes-fit w, eqb-true j (rowBytes w - 1) e))))
+        (λ e. rw (by-place false e)) (either (eqb j (rowBytes w - 1)))
+
+    pub unused-zero : (k : ℕ) → k < 8 → w ≤ 8 * j + k → clearedByte w r i / 2 ^ (7 - k) % 2 ≡ 0
+    unused-zero k l b =
+        let fit = row-bytes-fit w in
+        let last : j ≡ rowBytes w - 1 = omega arith in
+        rw (by-place true (eq-eqb j (rowBytes w - 1) last))
+        (low-zero (getD r i 0 - getD r i 0 % 2 ^ unused w) (unused w) (7 - k) (clear-low (getD r i 0) (unused w)) (omega arith))
+
+    -- with no unused bit of the row set, the byte is as it was
+    byte-same : paddingSet w r row ≡ false → getD r i 0 ≡ clearedByte w r i
+    unfolding paddingSet
+    byte-same clean = ⊎-elim last (λ e. sym (by-place false e)) (either (eqb j (rowBytes w - 1)))
+      where
+        low : getD r (row * rowBytes w + (rowBytes w - 1)) 0 % 2 ^ unused w ≡ 0
+        low = eqb-true _ 0 (not-false _ clean)
+
+        last : eqb j (rowBytes w - 1) ≡ true → getD r i 0 ≡ clearedByte w r i
+        last e = rw (by-place true e) (omega (arith, rw (← eqb-true j (rowBytes w - 1) e) at low))
+
+  pub cleared-below : (i : ℕ) → clearedByte w r i ≤ getD r i 0
+  unfolding clearedByte
+  cleared-below i = by (eqb (i % rowBytes w) (rowBytes w - 1))
+    where
+      by : (t : Bool) → cond t (getD r i 0 - getD r i 0 % 2 ^ unused w) (getD r i 0) ≤ getD r i 0
+      by true = omega arith
+      by false = omega arith
+
+  pub cleared-same : (h : ℕ) → length r ≡ rowBytes w * h → ((row : ℕ) → row < h → paddingSet w r row ≡ false)
+      → tab (clearedByte w r) (rowBytes w * h) ≡ r
+  cleared-same h count clean =
+      sym (tab-of (clearedByte w r) r (rowBytes w * h) 0 count
+      (by-cell (rowBytes w) h (λ i. getD r i 0 ≡ clearedByte w r i) (λ row j p q. byte-same row j q (clean row p))))
+
+pub none-set : (f : List ℕ) → unusedZero f ≡ true → (row : ℕ) → row < heightOf f → paddingSet (widthOf f) (raster f) row ≡ false
+unfolding unusedZero
+none-set f e row l = any-false (paddingSet (widthOf f) (raster f)) (not-eq-true _ e) (upTo-intro l)
 
 -- the unused bits of a last byte are fewer than eight, so the shift loses nothing
 pub padding-unit : (w b : ℕ) → b ≡ rowBytes w → 1 * 2 ^ (8 * b - w) % 256 ≡ 2 ^ (8 * rowBytes w - w)

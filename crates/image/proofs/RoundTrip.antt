@@ -1,30 +1,33 @@
 -- Images there and back: the proof of specs/RoundTrip. Assumes nothing.
 use mathlib.Core.Bool.{true}
 use mathlib.Core.List.{List, [], _∷_, _++_}
-use mathlib.Core.Path.{_≡_, ap, _∙_}
-use Prim.Native.Nat.{ℕ, zero, suc, _+_, _*_, _<_}
+use mathlib.Core.Path.{_≡_, sym, ap, _∙_}
+use Prim.Native.Nat.{ℕ, zero, suc, _+_, _-_, _*_, _<_}
 use native.Mathlib.Omega.{arith}
 use borrow.Author.Tests.{ltb-true}
 use lib.Dec.{ltb}
-use lib.ListN.{getD}
+use lib.ListN.{length, getD, take, length-append}
 use lib.Pow.{areBytes}
-use lib.Seq.{getD-drop}
+use lib.Seq.{getD-drop, take-at}
 use Rattle.image.specs.Code.Layout.{rasterStart}
 use Rattle.image.specs.Code.Rows.{Sides, rasterOf}
-use Rattle.image.specs.File.{paddingSet, imageBytes, rowByte, imageOf}
+use Rattle.image.specs.File.{imageBytes, rowByte, imageOf}
 use Rattle.image.specs.Header.{raster, widthOf, heightOf, header}
+use Rattle.image.specs.Padding.{paddingSet, unusedZero, cleared}
 use Rattle.image.specs.RoundTrip.{ReadBack, ImageRoundTrip}
 use Rattle.image.specs.Size.{rowBytes}
 use Rattle.image.proofs.Facts.{FileGood, file-good, good-file, AcceptedFile, accepted-file}
 use Rattle.image.proofs.HeaderBack.{HeaderRead, header-back, header-kept}
 use Rattle.image.proofs.HeaderOf.{raster-place}
+use Rattle.image.proofs.Padding.{cleared-same, none-set}
 use Rattle.image.proofs.PixelsOf.{PixelsGood, pixels-good, good-pixels, binary-at}
-use Rattle.image.proofs.RasterBack.{rows-clean, rows-back, raster-kept}
+use Rattle.image.proofs.RasterBack.{rows-clean, rows-back, raster-cleared}
 use Rattle.image.proofs.RowBytes.{sides}
 use Rattle.image.proofs.WriteOf.{binary}
 use Rattle.seq.proofs.Grid.{grid}
-use Rattle.seq.proofs.Lists.{and-left, and-right}
-use Rattle.seq.proofs.Tab.{length-tab, first-none, first-nothing}
+use Rattle.seq.proofs.Lists.{and-left, and-right, any-none}
+use Rattle.seq.proofs.Tab.{length-tab, upTo-elim, first-none}
+use Rattle.seq.specs.Tab.{upTo}
 
 -- bytes are below 256, and past them stands 0
 byte-below : (f : List ℕ) → areBytes f ≡ true → (i : ℕ) → getD f i 0 < 256
@@ -60,13 +63,36 @@ module _ (w h : ℕ) (px : List ℕ) (g : PixelsGood w h px) where
     pixels = rw (read .rest, read .width, read .height) (rows-back w h (both .wide) px (binary g) (g .count));
   }
 
-kept : (f : List ℕ) → FileGood f → areBytes f ≡ true → imageBytes (widthOf f) (heightOf f) (imageOf f) ≡ f
-unfolding imageOf imageBytes
-kept f g e =
-    let wide = sides (widthOf f) (heightOf f) (g .size) .wide in
-    let clean = first-nothing (paddingSet (widthOf f) (raster f)) (heightOf f) (g .clean) in
-    let same = raster-kept (widthOf f) (heightOf f) wide (raster f) clean (g .count) (raster-below f e) in
-    ap (λ (r : List ℕ). header (widthOf f) (heightOf f) ++ r) same ∙ header-kept f (g .form)
+  zeros : unusedZero (imageBytes w h px) ≡ true
+  unfolding unusedZero
+  zeros =
+      rw (
+        read .rest,
+        read .width,
+        read .height,
+        any-none (paddingSet w (rasterOf w h px)) (upTo h) (λ row m. rows-clean w h (both .wide) px row (upTo-elim h m)),
+      )
+
+module _ (f : List ℕ) (g : FileGood f) where
+  -- what stands before the raster is the header of the file's size
+  front : take (length f - length (raster f)) f ≡ header (widthOf f) (heightOf f)
+  front =
+      let whole = header-kept f (g .form) in
+      let long = ap length (sym whole) ∙ length-append (header (widthOf f) (heightOf f)) (raster f) in
+      ap (take (length f - length (raster f))) (sym whole) ∙ take-at (header (widthOf f) (heightOf f)) (raster f) (length f - length (raster f)) (omega (arith, long))
+
+  returned : areBytes f ≡ true → imageBytes (widthOf f) (heightOf f) (imageOf f) ≡ cleared f
+  unfolding imageOf imageBytes cleared
+  returned e =
+      rw (front, g .count)
+      (ap (λ (r : List ℕ). header (widthOf f) (heightOf f) ++ r) (raster-cleared (widthOf f) (heightOf f) (raster f) (raster-below f e)))
+
+  same : unusedZero f ≡ true → cleared f ≡ f
+  unfolding cleared
+  same z =
+      rw (front, g .count)
+      (ap (λ (r : List ℕ). header (widthOf f) (heightOf f) ++ r) (cleared-same (widthOf f) (raster f) (heightOf f) (g .count) (none-set f z))
+      ∙ header-kept f (g .form))
 
 checked : (f : List ℕ) → AcceptedFile f → PixelsGood (widthOf f) (heightOf f) (imageOf f)
 checked f a = record {
@@ -78,6 +104,8 @@ checked f a = record {
 pub image-round-trip : ImageRoundTrip
 image-round-trip = record {
   image-back = λ w h px e. back w h px (pixels-good w h px e);
-  file-back = λ f b e. kept f (file-good f e) b;
+  file-cleared = λ f b e. returned f (file-good f e) b;
+  file-back = λ f b e z. returned f (file-good f e) b ∙ same f (file-good f e) z;
+  written-zero = λ w h px e. zeros w h px (pixels-good w h px e);
   read-checked = λ f e. good-pixels _ _ _ (checked f (accepted-file f e));
 }

@@ -2,7 +2,6 @@
 --     rasterPixel w r row col    the pixel at a row and a column of the raster r: the leftmost is the highest bit
 --     pixelsOf w h r        the pixels of the raster r, in row order
 --     imageOf f             the pixels of an accepted file
---     paddingSet w r row    an unused bit of a row's last byte is 1
 --     fileRules f, fileVerdict f             the rules of a file in their order; accepted, or number and place
 --     areaRule w h n        13: an area of n bytes is too short for the image
 --     imageVerdict f n, imageRead f n, imageArea f area    the reader on an area of n bytes: its answer, and the area afterwards
@@ -14,7 +13,7 @@
 --     imageBytes w h px     the file of an image
 --     writeVerdict w h px n, imageWritten w h px n, imageOutput w h px out     the writer on n bytes of output
 -- Assumes nothing.
-use mathlib.Core.Bool.{Bool, not, cond}
+use mathlib.Core.Bool.{not, cond}
 use mathlib.Core.List.{List, [], _∷_, _++_}
 use Prim.Native.Nat.{ℕ, _+_, _-_, _*_, _/_, _%_, _^_}
 use lib.Dec.{ltb, eqb}
@@ -22,6 +21,7 @@ use lib.ListN.{length, getD}
 use Rattle.image.specs.declared.ImageRead.{ImageRead}
 use Rattle.image.specs.declared.ImageRead.the-variants as read
 use Rattle.image.specs.Header.{raster, headerForm, widthOf, heightOf, header}
+use Rattle.image.specs.Padding.{paddingSet}
 use Rattle.image.specs.Size.{badSize, rowBytes}
 use Rattle.seq.specs.Tab.{tab, first}
 use Rattle.verdict.specs.declared.Verdict.{Verdict}
@@ -38,9 +38,6 @@ pixelsOf w h r = tab (λ i. rasterPixel w r (i / w) (i % w)) (w * h)
 
 unfoldable pub imageOf : List ℕ → List ℕ
 imageOf f = pixelsOf (widthOf f) (heightOf f) (raster f)
-
-unfoldable pub paddingSet : ℕ → List ℕ → ℕ → Bool
-paddingSet w r row = not (eqb (getD r (row * rowBytes w + (rowBytes w - 1)) 0 % 2 ^ (8 * rowBytes w - w)) 0)
 
 abbrev pub fileRules : List ℕ → List Verdict
 fileRules f =

@@ -9,6 +9,7 @@ use Prim.Native.Nat.{ℕ}
 use lib.Pow.{areBytes}
 use Rattle.image.specs.File.{imageOf, fileVerdict, pixelVerdict, imageBytes}
 use Rattle.image.specs.Header.{widthOf, heightOf}
+use Rattle.image.specs.Padding.{unusedZero, cleared}
 use Rattle.verdict.specs.declared.Verdict.the-variants.{Accepted}
 
 pub record ReadBack (w h : ℕ) (px : List ℕ) : Type 0 where
@@ -20,7 +21,12 @@ pub record ReadBack (w h : ℕ) (px : List ℕ) : Type 0 where
 pub record ImageRoundTrip : Type 0 where
   -- an image that the writer accepts, written and read, is accepted and is the same image
   pub image-back : (w h : ℕ) (px : List ℕ) → pixelVerdict w h px ≡ Accepted → ReadBack w h px
-  -- an accepted file, read and written, has the same bytes
-  pub file-back : (f : List ℕ) → areBytes f ≡ true → fileVerdict f ≡ Accepted → imageBytes (widthOf f) (heightOf f) (imageOf f) ≡ f
+  -- an accepted file, read and written, has its own bytes with zeros in the unused bits
+  pub file-cleared : (f : List ℕ) → areBytes f ≡ true → fileVerdict f ≡ Accepted → imageBytes (widthOf f) (heightOf f) (imageOf f) ≡ cleared f
+  -- so where these are zero, it has the same bytes
+  pub file-back : (f : List ℕ) → areBytes f ≡ true → fileVerdict f ≡ Accepted → unusedZero f ≡ true
+      → imageBytes (widthOf f) (heightOf f) (imageOf f) ≡ f
+  -- the writer puts zeros there
+  pub written-zero : (w h : ℕ) (px : List ℕ) → pixelVerdict w h px ≡ Accepted → unusedZero (imageBytes w h px) ≡ true
   -- what the reader gives, the writer accepts
   pub read-checked : (f : List ℕ) → fileVerdict f ≡ Accepted → pixelVerdict (widthOf f) (heightOf f) (imageOf f) ≡ Accepted

@@ -5,7 +5,7 @@ ghost use mathlib.Core.Path.{_≡_};
 ghost use Prim.Native.Nat.{_-_, _*_, _^_, _≤_};
 ghost use lib.ListN.{length};
 ghost use Rattle.image.specs.Code.Rows.{Sides};
-ghost use Rattle.image.specs.File.{paddingSet};
+ghost use Rattle.image.specs.Padding.{paddingSet};
 ghost use Rattle.image.specs.Size.{maxSide, rowBytes};
 ghost use Rattle.seq.specs.Tab.{first};
 ghost use Rattle.verdict.specs.Rules.{refuseAt};
