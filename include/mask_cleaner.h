@@ -50,7 +50,7 @@ extern "C" {
 #define MASK_HEADER_FORM 9        /* image file: the header is not `P4`, line feed, width, space, height, line feed */
 #define MASK_SIZE_RANGE 10        /* width or height is not 1 to 256 */
 #define MASK_RASTER_LENGTH 11     /* image file: not as many bytes as its rows need; pixels: not width x height bytes */
-#define MASK_PIXEL_VALUE 12       /* image file: an unused bit is 1; pixels: a byte above 1; the lowest such row, from 0 */
+#define MASK_PIXEL_VALUE 12       /* pixels: a byte above 1; the lowest such row, from 0 */
 #define MASK_AREA_SHORT 13        /* a lent output or area is too short */
 #define MASK_UNSOUND 14           /* the record of a job is not one that these calls make, or does not fit its areas */
 #define MASK_NOT_COLLECTED 15     /* load: the job already holds an image */
@@ -145,10 +145,12 @@ mask_file_length mask_table_write(mask_table table, uint8_t *out, size_t out_len
 
 /* ---- images: raw PBM in one strict form in files; in memory one byte for each pixel, in row order */
 
-/* Reads an image file to the front of `area`; bytes past width x height stay. Refused by 9, 10, 11, 12, then 13. */
+/* Reads an image file to the front of `area`; bytes past width x height stay. The unused low bits of a row's last byte are
+   ignored. Refused by 9, 10, 11, then 13. */
 mask_image_size mask_image_read(const uint8_t *file, size_t file_length, uint8_t *area, size_t area_length);
 
-/* Writes the file of an image to the front of `out`; bytes past it stay. Refused by 10, 11, 12, then 13. */
+/* Writes the file of an image to the front of `out`, with zeros in the unused bits; bytes past it stay. Refused by 10, 11,
+   12, then 13. */
 mask_file_length mask_image_write(size_t width, size_t height, const uint8_t *pixels, size_t pixels_length,
                                   uint8_t *out, size_t out_length);
 

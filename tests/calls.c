@@ -127,14 +127,19 @@ static void image_files(void) {
     memset(out, FILL, sizeof out);
     mask_image_size r = mask_image_read(file, sizeof file, area, 19);
     EXPECT(REFUSED(r, MASK_AREA_SHORT, 0) && r.width == 0 && r.height == 0 && all(area, sizeof area, FILL));
-    file[11] = 0x81;
-    r = mask_image_read(file, sizeof file, area, sizeof area);
-    EXPECT(REFUSED(r, MASK_PIXEL_VALUE, 1) && r.width == 0 && r.height == 0 && all(area, sizeof area, FILL));
+    /* with zeros, a one and all ones in the unused bits: the same pixels */
+    for (size_t i = 0; i < 3; i++) {
+        static const uint8_t unused[] = {0x00, 0x01, 0x3F};
+        file[9] = 0x40 | unused[i];
+        file[11] = 0x80 | unused[i];
+        memset(area, FILL, sizeof area);
+        r = mask_image_read(file, sizeof file, area, sizeof area);
+        EXPECT(ACCEPTED(r) && r.width == 10 && r.height == 2);
+        EXPECT(area[0] == 1 && area[9] == 1 && area[17] == 1 && area[18] == 1 && all(area + 1, 8, 0) && all(area + 10, 7, 0));
+        EXPECT(area[19] == 0 && all(area + 20, 4, FILL));
+    }
+    file[9] = 0x40;
     file[11] = 0x80;
-    r = mask_image_read(file, sizeof file, area, sizeof area);
-    EXPECT(ACCEPTED(r) && r.width == 10 && r.height == 2);
-    EXPECT(area[0] == 1 && area[9] == 1 && area[17] == 1 && area[18] == 1 && all(area + 1, 8, 0) && all(area + 10, 7, 0));
-    EXPECT(area[19] == 0 && all(area + 20, 4, FILL));
 
     mask_file_length w = mask_image_write(10, 2, area, 20, out, 11);
     EXPECT(REFUSED(w, MASK_AREA_SHORT, 0) && w.length == 0 && all(out, sizeof out, FILL));

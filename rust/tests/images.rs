@@ -2,7 +2,7 @@
 
 mod common;
 
-use common::{assert_reached, Tally};
+use common::{assert_reached, cleared, fill_unused, report, Tally};
 use mask_cleaner::cases::{random_image, Random};
 use mask_cleaner::library;
 use mask_cleaner::record::{Reason, Refusal};
@@ -140,7 +140,7 @@ fn damaged_file(random: &mut Random) -> Vec<u8> {
         4 => format!("P4\n{width} {}\n", random.choose(&[0, 257, 300])).into_bytes(),
         _ => file,
     };
-    [header, damaged_raster(raster, width, random)].concat()
+    [header, damaged_raster(raster, width, height, random)].concat()
 }
 
 fn damaged_header(mut header: Vec<u8>, random: &mut Random) -> Vec<u8> {
@@ -154,9 +154,14 @@ fn damaged_header(mut header: Vec<u8>, random: &mut Random) -> Vec<u8> {
     header
 }
 
-fn damaged_raster(mut raster: Vec<u8>, width: usize, random: &mut Random) -> Vec<u8> {
+fn damaged_raster(
+    mut raster: Vec<u8>,
+    width: usize,
+    height: usize,
+    random: &mut Random,
+) -> Vec<u8> {
     if random.percent(40) {
-        set_unused(random, &mut raster, width);
+        fill_unused(&mut raster, width, height, random);
     }
     match random.below(6) {
         0 => raster.truncate(random.below(raster.len())),
@@ -166,22 +171,11 @@ fn damaged_raster(mut raster: Vec<u8>, width: usize, random: &mut Random) -> Vec
     raster
 }
 
-/// Sets a bit past the width in one or two rows, if rows have such bits.
-fn set_unused(random: &mut Random, raster: &mut [u8], width: usize) {
-    let row_bytes = width.div_ceil(8);
-    let unused = 8 * row_bytes - width;
-    for _ in 0..1 + random.below(2) {
-        let row = random.below(raster.len() / row_bytes);
-        if unused > 0 {
-            raster[(row + 1) * row_bytes - 1] |= 1 << random.below(unused);
-        }
-    }
-}
-
 #[test]
 fn damaged_files() {
     let mut random = Random::new(21);
     let mut tally = Tally::default();
+    let mut altered = 0;
     for _ in 0..40_000 {
         let file = damaged_file(&mut random);
         let length = *random.choose(&[0, 20, 400, 1600, 1600, 1600]);
@@ -190,12 +184,71 @@ fn damaged_files() {
             let mut out = random.output(file.len());
             let pixels = &area[..width * height];
             assert_eq!(write(width, height, pixels, &mut out), Ok(file.len()));
-            assert_eq!(out, file, "an accepted file returns byte for byte");
+            let expected = cleared(&file, width, height);
+            assert_eq!(
+                out, expected,
+                "an accepted file returns, but for unused bits"
+            );
+            altered += usize::from(expected != file);
         }
     }
     tally.report("damaged image files");
-    let one_place = [Reason::Header, Reason::Size, Reason::Raster, Reason::Short];
-    assert_reached(&tally, &Reason::ALL[8..13], &one_place);
+    report(&format!("  returned with zeros for ones: {altered}"));
+    assert!(altered >= 1000);
+    let reasons = [Reason::Header, Reason::Size, Reason::Raster, Reason::Short];
+    assert_reached(&tally, &reasons, &reasons);
+    assert_eq!(tally.times(Reason::Pixel), 0, "12 never comes from a file");
+}
+
+/// 02's cases (T-02): a file, and what it returns as.
+#[test]
+fn unused_bits() {
+    let dot: &[u8] = b"P4\n5 5\n\x00\x00\x20\x00\x00";
+    let cases: [(&[u8], &[u8]); 6] = [
+        (dot, dot),
+        (b"P4\n5 5\n\x00\x00\x21\x00\x00", dot),
+        (b"P4\n5 5\n\x07\x07\x27\x07\x07", dot),
+        (b"P4\n8 1\n\xFF", b"P4\n8 1\n\xFF"),
+        (b"P4\n9 1\n\xFF\xFF", b"P4\n9 1\n\xFF\x80"),
+        (b"P4\n1 2\n\xFF\x7F", b"P4\n1 2\n\x80\x00"),
+    ];
+    for (file, expected) in cases {
+        let (mut area, mut out) = ([7; 25], [7; 20]);
+        let (width, height) = read(file, &mut area).expect("an accepted file");
+        let pixels = &area[..width * height];
+        assert_eq!(write(width, height, pixels, &mut out), Ok(expected.len()));
+        assert_eq!(out[..expected.len()], *expected);
+    }
+    let short = read(b"P4\n5 5\n\x07\x07\x27\x07", &mut [7; 25]);
+    assert_eq!(short, Err(Refusal::of(Reason::Raster)));
+    let wide = [b"P4\n257 1\n".as_slice(), &[0xFF; 33]].concat();
+    assert_eq!(read(&wide, &mut [7; 300]), Err(Refusal::of(Reason::Size)));
+    let mut pixels = [0; 25];
+    pixels[12] = 2;
+    let given = write(5, 5, &pixels, &mut [7; 20]);
+    assert_eq!(given, Err(Refusal::at(Reason::Pixel, 2)));
+    report("unused bits: 9 cases");
+}
+
+/// The same file with and without ones in the unused bits, also for an area that is too short.
+#[test]
+fn unused_bits_do_not_matter() {
+    let mut random = Random::new(24);
+    let mut tally = Tally::default();
+    for _ in 0..20_000 {
+        let (width, height) = (1 + random.below(40), 1 + random.below(40));
+        let image = random_image(width, height, &mut random);
+        let file = reference::file_of(&image);
+        let mut other = file.clone();
+        fill_unused(&mut other, width, height, &mut random);
+        let length = *random.choose(&[0, 400, 1600, 1600]);
+        let mut area = random.bytes(length);
+        let mut other_area = area.clone();
+        let answer = tally.note(read(&file, &mut area));
+        assert_eq!(answer, read(&other, &mut other_area));
+        assert_eq!(area, other_area);
+    }
+    tally.report("files with and without ones in the unused bits");
 }
 
 /// Damages pixels or size, once or twice.

@@ -97,8 +97,9 @@ fn short_lists() {
         0,
         "no call of a list answers 14"
     );
-    let reasons = [&Reason::ALL[2..7], &Reason::ALL[8..13], &Reason::ALL[14..]];
-    for reason in reasons.concat() {
+    assert_eq!(tally.times(Reason::Pixel), 0, "12 never comes from a file");
+    let images = [Reason::Header, Reason::Size, Reason::Raster, Reason::Short];
+    for reason in [&Reason::ALL[2..7], &images, &Reason::ALL[14..]].concat() {
         assert!(tally.times(reason) >= 100, "{reason:?}");
     }
 }

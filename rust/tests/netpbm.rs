@@ -10,13 +10,23 @@
 
 mod common;
 
-use common::report;
+use common::{fill_unused, report};
+use mask_cleaner::cases::Random;
 use mask_cleaner::library;
 use mask_cleaner::record::{Reason, Refusal, MAX_SIDE};
 use mask_cleaner::reference::image::{parse, Image};
 
-/// The image of a file, which must be written back byte for byte.
+/// The image of a file, which must be written back byte for byte, also with other bits where no pixel is.
 fn returned(file: &[u8]) -> Image {
+    let image = read_back(file, file);
+    let mut other = file.to_vec();
+    fill_unused(&mut other, image.width, image.height, &mut Random::new(60));
+    assert_eq!(read_back(&other, file), image);
+    image
+}
+
+/// The image of a file, which must be written back as `expected`.
+fn read_back(file: &[u8], expected: &[u8]) -> Image {
     let mut area = vec![0; MAX_SIDE * MAX_SIDE];
     let (width, height) = library::read_image(file, &mut area).expect("an accepted file");
     let image = Image::new(width, height, &area[..width * height]);
@@ -24,7 +34,7 @@ fn returned(file: &[u8]) -> Image {
     let mut out = vec![0xA5; file.len()];
     let written = library::write_image(width, height, &image.pixels, &mut out);
     assert_eq!(written, Ok(file.len()));
-    assert_eq!(out, file);
+    assert_eq!(out, expected);
     image
 }
 

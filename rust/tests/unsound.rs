@@ -361,8 +361,8 @@ fn lists_between_alterations() {
         "lists of {calls} calls: {lists}, with {altered} alterations by others"
     ));
     tally.report("calls in such lists");
-    let reasons = [&Reason::ALL[2..7], &Reason::ALL[8..]];
-    for reason in reasons.concat() {
+    assert_eq!(tally.times(Reason::Pixel), 0, "12 never comes from a file");
+    for reason in [&Reason::ALL[2..7], &Reason::ALL[8..11], &Reason::ALL[12..]].concat() {
         assert!(tally.times(reason) >= 100, "{reason:?}");
     }
     assert!(tally.accepted >= tally.cases / 10);

@@ -1,7 +1,8 @@
 -- 01, demand 2: tables and sheets written and read back are the same, and accepted files written back have the same bytes; a sheet's with zeros in
 -- its unused bits.
 --     table-back, table-file-back, table-read-checked     tables
---     image-accepted, image-size, image-back, image-written-zero, image-file-cleared, image-file-back, image-read-checked     images
+--     image-accepted, image-size, image-back, image-written-zero, image-file-cleared, image-file-back, image-back-zero,
+--     image-read-checked     images
 -- Assumes nothing.
 use mathlib.Core.Bool.{true}
 use mathlib.Core.List.{List}
@@ -49,6 +50,10 @@ image-file-cleared = image-round-trip .file-cleared
 pub image-file-back : (f : List ℕ) → areBytes f ≡ true → image.fileVerdict f ≡ Accepted → unusedZero f ≡ true
     → image.imageBytes (widthOf f) (heightOf f) (image.imageOf f) ≡ f
 image-file-back = image-round-trip .file-back
+
+pub image-back-zero : (f : List ℕ) → image.fileVerdict f ≡ Accepted
+    → image.imageBytes (widthOf f) (heightOf f) (image.imageOf f) ≡ f → unusedZero f ≡ true
+image-back-zero = image-round-trip .back-zero
 
 pub image-read-checked : (f : List ℕ) → image.fileVerdict f ≡ Accepted
     → image.pixelVerdict (widthOf f) (heightOf f) (image.imageOf f) ≡ Accepted

@@ -6,5 +6,6 @@ pub mod Demand1
 pub mod Demand2
 pub mod Demand3
 pub mod Operator
+pub mod Padding
 pub mod Trials
 pub mod Walk

@@ -28,3 +28,4 @@ pub mod Twins
 pub mod Reload
 pub mod Demand2
 pub mod Demand3
+pub mod Padding

@@ -113,7 +113,7 @@ keeps-play (c ∷ cs) w e r k u =
         record { entry = x .entry; held-by = ap (λ (v : Course). step c v .history) (sym same-course) ∙ x .held-by; like = then (k .like) (x .like) }
 
 -- what a writer's answer says of its verdict
-by-answer : (v : Verdict) (bytes out : List ℕ) {m : ℕ} {after : List ℕ} → collected (writtenOf v bytes) (outputOf v bytes out) ≡ collected (written.Length m) after
+pub by-answer : (v : Verdict) (bytes out : List ℕ) {m : ℕ} {after : List ℕ} → collected (writtenOf v bytes) (outputOf v bytes out) ≡ collected (written.Length m) after
     → (v ≡ Accepted) × (take m after ≡ bytes)
 by-answer Accepted bytes out {m} {after} q =
     let n : length bytes ≡ m = cc in

@@ -34,7 +34,7 @@ pub source-length : (x : Source) → length (sourcePixels x) ≡ sourceWidth x *
 unfolding imageOf pixelsOf
 source-length (fromFile f) = length-tab _ (widthOf f * heightOf f)
 
-pub source-numbers : (x : Source) → OneOf (9 ∷ 10 ∷ 11 ∷ 12 ∷ []) (sourceVerdict x)
+pub source-numbers : (x : Source) → OneOf (9 ∷ 10 ∷ 11 ∷ []) (sourceVerdict x)
 source-numbers (fromFile f) = file-numbers f
 
 abbrev pub areaVerdict : Source → ℕ → Verdict

@@ -15,5 +15,6 @@ pub mod Answered
 pub mod Demand1
 pub mod Demand2
 pub mod Demand3
+pub mod Padding
 pub mod Computing
 pub mod Cases

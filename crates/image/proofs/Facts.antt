@@ -5,7 +5,6 @@
 -- Assumes nothing.
 use mathlib.Core.Bool.{true, false, not}
 use mathlib.Core.List.{List, [], _∷_}
-use mathlib.Core.Option.{none}
 use mathlib.Core.Path.{_≡_, refl}
 use Prim.Native.Nat.{ℕ, _*_}
 use native.Mathlib.Omega.{arith}
@@ -15,42 +14,37 @@ use lib.ListN.{length}
 use Rattle.image.specs.Code.Rows.{Sides}
 use Rattle.image.specs.File.{rasterPixel, pixelsOf, fileVerdict, imageOf}
 use Rattle.image.specs.Header.{raster, headerForm, widthOf, heightOf}
-use Rattle.image.specs.Padding.{paddingSet}
 use Rattle.image.specs.Size.{badSize, rowBytes}
 use Rattle.image.proofs.RowBytes.{sides}
 use Rattle.seq.proofs.Grid.{grid}
 use Rattle.seq.proofs.Members.{all-tab}
 use Rattle.seq.proofs.Tab.{length-tab}
 use Rattle.seq.specs.Lists.{all}
-use Rattle.seq.specs.Tab.{first}
 use Rattle.verdict.specs.declared.Verdict.the-variants.{Accepted}
 use Rattle.verdict.specs.Numbers.{OneOf, accepts}
 use Rattle.verdict.specs.Rules.{refuseIf}
-use Rattle.verdict.proofs.Numbers.{one-of-if, one-of-at, one-of-or}
-use Rattle.verdict.proofs.Rules.{orElse-left, orElse-right, refuseIf-accepted, refuseAt-accepted}
+use Rattle.verdict.proofs.Numbers.{one-of-if, one-of-or}
+use Rattle.verdict.proofs.Rules.{orElse-left, orElse-right, refuseIf-accepted}
 
 pub record FileGood (f : List ℕ) : Type 0 where
   pub form : headerForm f ≡ true
   pub size : badSize (widthOf f) (heightOf f) ≡ false
   pub count : length (raster f) ≡ rowBytes (widthOf f) * heightOf f
-  pub clean : first (paddingSet (widthOf f) (raster f)) (heightOf f) ≡ none
 
 pub file-good : (f : List ℕ) → fileVerdict f ≡ Accepted → FileGood f
 unfolding fileVerdict
 file-good f e =
     let e₁ = orElse-right (refuseIf (not (headerForm f)) 9 0) _ e in
     let e₂ = orElse-right (refuseIf (badSize (widthOf f) (heightOf f)) 10 0) _ e₁ in
-    let e₃ = orElse-right (refuseIf (not (eqb (length (raster f)) (rowBytes (widthOf f) * heightOf f))) 11 0) _ e₂ in
     record {
       form = not-false _ (refuseIf-accepted (not (headerForm f)) 9 0 (orElse-left _ _ e));
       size = refuseIf-accepted (badSize (widthOf f) (heightOf f)) 10 0 (orElse-left _ _ e₁);
       count = eqb-true _ _ (not-false _ (refuseIf-accepted (not (eqb (length (raster f)) (rowBytes (widthOf f) * heightOf f))) 11 0 (orElse-left _ _ e₂)));
-      clean = refuseAt-accepted (first (paddingSet (widthOf f) (raster f)) (heightOf f)) 12 (λ row. row) (orElse-left _ _ e₃);
     }
 
 pub good-file : (f : List ℕ) → FileGood f → fileVerdict f ≡ Accepted
 unfolding fileVerdict
-good-file f g = simp (g .form, g .size, eq-eqb _ _ (g .count), g .clean)
+good-file f g = simp (g .form, g .size, eq-eqb _ _ (g .count))
 
 -- the image of an accepted file: its size, how many pixels it has, and that each is 0 or 1
 pub record AcceptedFile (f : List ℕ) : Type 0 where
@@ -71,10 +65,9 @@ accepted-file f e =
       binary = all-tab (λ v. leb v 1) pixel (widthOf f * heightOf f) (λ i l. le-leb (pixel i) 1 (omega arith));
     }
 
-pub file-numbers : (f : List ℕ) → OneOf (9 ∷ 10 ∷ 11 ∷ 12 ∷ []) (fileVerdict f)
+pub file-numbers : (f : List ℕ) → OneOf (9 ∷ 10 ∷ 11 ∷ []) (fileVerdict f)
 unfolding fileVerdict
 file-numbers f =
     one-of-or (one-of-if (not (headerForm f)) 9 0 refl)
     (one-of-or (one-of-if (badSize (widthOf f) (heightOf f)) 10 0 refl)
-    (one-of-or (one-of-if (not (eqb (length (raster f)) (rowBytes (widthOf f) * heightOf f))) 11 0 refl)
-    (one-of-or (one-of-at (first (paddingSet (widthOf f) (raster f)) (heightOf f)) 12 (λ row. row) refl) accepts)))
+    (one-of-or (one-of-if (not (eqb (length (raster f)) (rowBytes (widthOf f) * heightOf f))) 11 0 refl) accepts))

@@ -2,7 +2,7 @@
 --     layout-header                    no header
 --     layout-start                     the raster starts within the file
 --     layout-size, layout-length       a size or a raster length that is refused
---     layout-rows                      else the rows' verdict is the file's
+--     layout-image                     else the file is accepted
 -- Assumes nothing.
 use mathlib.Core.Bool.{Bool, true, false, _&&_}
 use mathlib.Core.List.{List}
@@ -11,21 +11,17 @@ use Prim.Native.Nat.{ℕ, _+_, _-_, _*_, _≤_, _<_}
 use native.Mathlib.Omega.{arith}
 use borrow.Author.Tests.{eqb-true, eq-eqb, ne-eqb}
 use lib.Dec.{eqb}
-use lib.ListN.{length, take, drop, length-drop}
+use lib.ListN.{length, length-drop}
 use Rattle.image.specs.declared.header.Header.the-variants as header
 use Rattle.image.specs.declared.layout.Layout.the-variants as layout
-use Rattle.image.specs.Code.Layout.{rasterStart, headerIf, headerOf, layoutIf, layoutOf}
+use Rattle.image.specs.Code.Layout.{rasterStart, headerIf, headerOf, layoutOf}
 use Rattle.image.specs.File.{fileVerdict}
-use Rattle.image.specs.Header.{digits, strict, after, widthPart, heightPart, startsMagic, headerForm, widthOf, heightOf, space, lineFeed}
-use Rattle.image.specs.Padding.{paddingSet}
+use Rattle.image.specs.Header.{digits, strict, after, widthPart, heightPart, startsMagic, headerForm, widthOf, heightOf, raster, space, lineFeed}
 use Rattle.image.specs.Size.{badSize, rowBytes}
-use Rattle.image.proofs.HeaderOf.{height-place, raster-part}
+use Rattle.image.proofs.HeaderOf.{height-place, raster-place}
 use Rattle.image.proofs.NumberAt.{byte-within}
 use Rattle.seq.proofs.Lists.{and-right}
-use Rattle.seq.specs.Tab.{first}
-use Rattle.verdict.specs.declared.Verdict.{Verdict}
-use Rattle.verdict.specs.Rules.{refusal, refuseAt}
-use Rattle.verdict.proofs.Rules.{orElse-accepted}
+use Rattle.verdict.specs.Rules.{refusal}
 
 record Told (f : List ℕ) (w h start : ℕ) : Type 0 where
   form : headerForm f ≡ true
@@ -73,14 +69,16 @@ module _ (f : List ℕ) (w h start : ℕ) (found : headerOf f ≡ header.Found w
   unfolding layoutOf fileVerdict
   layout-size e = simp (t .form, t .width, t .height, e)
 
+  -- the bytes behind the header
+  count : length (raster f) ≡ length f - start
+  count = ap length (raster-place f) ∙ length-drop (rasterStart f) f ∙ ap (λ (k : ℕ). length f - k) (t .place)
+
   -- b bytes a row
   module _ (b : ℕ) (wide : b ≡ rowBytes w) (good : badSize w h ≡ false) where
-    pub layout-length : (length (take (length f - start) (drop start f)) ≡ b * h → ⊥) → layoutOf f ≡ layout.Refused (refusal 11 0)
+    pub layout-length : (length f - start ≡ b * h → ⊥) → layoutOf f ≡ layout.Refused (refusal 11 0)
     unfolding layoutOf fileVerdict
-    layout-length n = simp (t .form, t .width, t .height, good, raster-part f start (t .place), sym wide, ne-eqb _ _ n)
+    layout-length n = simp (t .form, t .width, t .height, good, count, sym wide, ne-eqb _ _ n)
 
-    pub layout-rows : length (take (length f - start) (drop start f)) ≡ b * h
-        → {v : Verdict} → v ≡ refuseAt (first (paddingSet w (take (length f - start) (drop start f))) h) 12 (λ row. row)
-        → layoutOf f ≡ layoutIf v w h start
+    pub layout-image : length f - start ≡ b * h → layoutOf f ≡ layout.Image w h start
     unfolding layoutOf fileVerdict
-    layout-rows q r = simp (t .form, t .width, t .height, t .place, good, raster-part f start (t .place), sym wide, eq-eqb _ _ q, r, orElse-accepted)
+    layout-image q = simp (t .form, t .width, t .height, t .place, good, count, sym wide, eq-eqb _ _ q)

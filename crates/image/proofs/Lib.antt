@@ -20,3 +20,4 @@ pub mod HeaderParts
 pub mod HeaderBack
 pub mod RasterBack
 pub mod RoundTrip
+pub mod Ignored

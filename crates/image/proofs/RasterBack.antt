@@ -15,7 +15,7 @@ use lib.Dec.{ltb}
 use lib.ListN.{length, getD}
 use Rattle.image.specs.Code.Rows.{Binary, rasterOf}
 use Rattle.image.specs.File.{rasterPixel, pixelsOf, inRow, packed, rowByte}
-use Rattle.image.specs.Padding.{unused, paddingSet, clearedByte}
+use Rattle.image.specs.Padding.{unused, paddingSet, clearedByte, clearedRaster}
 use Rattle.image.specs.Size.{rowBytes}
 use Rattle.image.proofs.Packed.{packed-bits, packed-ext, pixel-small}
 use Rattle.image.proofs.Padding.{used-kept, unused-zero, cleared-below}
@@ -99,8 +99,9 @@ module _ (w h : ℕ) (r : List ℕ) where
         ∙ sym (packed-bits bits)
         ∙ bits-back (clearedByte w r i) 8 (omega (arith, cleared-below w r i, bytes i))
 
-    pub raster-cleared : rasterOf w h (pixelsOf w h r) ≡ tab (clearedByte w r) (rowBytes w * h)
-    raster-cleared =
-        tab-ext (grid (rowBytes w) (rowByte w (pixelsOf w h r))) (clearedByte w r) (rowBytes w * h)
+    pub raster-cleared : length r ≡ rowBytes w * h → rasterOf w h (pixelsOf w h r) ≡ clearedRaster w r
+    raster-cleared count =
+        rw count
+        (tab-ext (grid (rowBytes w) (rowByte w (pixelsOf w h r))) (clearedByte w r) (rowBytes w * h)
         (by-cell (rowBytes w) h (λ i. grid (rowBytes w) (rowByte w (pixelsOf w h r)) i ≡ clearedByte w r i)
-        (λ row j p q. grid-at (rowBytes w) (rowByte w (pixelsOf w h r)) row j q ∙ byte-cleared row j p q))
+        (λ row j p q. grid-at (rowBytes w) (rowByte w (pixelsOf w h r)) row j q ∙ byte-cleared row j p q)))

@@ -11,7 +11,7 @@ use lib.Pow.{areBytes}
 use lib.Seq.{getD-drop, take-at}
 use Rattle.image.specs.Code.Layout.{rasterStart}
 use Rattle.image.specs.Code.Rows.{Sides, rasterOf}
-use Rattle.image.specs.File.{imageBytes, rowByte, imageOf}
+use Rattle.image.specs.File.{fileVerdict, imageBytes, rowByte, imageOf}
 use Rattle.image.specs.Header.{raster, widthOf, heightOf, header}
 use Rattle.image.specs.Padding.{paddingSet, unusedZero, cleared}
 use Rattle.image.specs.RoundTrip.{ReadBack, ImageRoundTrip}
@@ -26,8 +26,9 @@ use Rattle.image.proofs.RowBytes.{sides}
 use Rattle.image.proofs.WriteOf.{binary}
 use Rattle.seq.proofs.Grid.{grid}
 use Rattle.seq.proofs.Lists.{and-left, and-right, any-none}
-use Rattle.seq.proofs.Tab.{length-tab, upTo-elim, first-none}
+use Rattle.seq.proofs.Tab.{length-tab, upTo-elim}
 use Rattle.seq.specs.Tab.{upTo}
+use Rattle.verdict.specs.declared.Verdict.the-variants.{Accepted}
 
 -- bytes are below 256, and past them stands 0
 byte-below : (f : List ℕ) → areBytes f ≡ true → (i : ℕ) → getD f i 0 < 256
@@ -51,7 +52,6 @@ module _ (w h : ℕ) (px : List ℕ) (g : PixelsGood w h px) where
     form = read .form;
     size = rw (read .width, read .height) (g .size);
     count = rw (read .rest, read .width, read .height) (length-tab (grid (rowBytes w) (rowByte w px)) (rowBytes w * h));
-    clean = rw (read .rest, read .width, read .height) (first-none (paddingSet w (rasterOf w h px)) h (rows-clean w h (both .wide) px));
   }
 
   back : ReadBack w h px
@@ -84,13 +84,13 @@ module _ (f : List ℕ) (g : FileGood f) where
   returned : areBytes f ≡ true → imageBytes (widthOf f) (heightOf f) (imageOf f) ≡ cleared f
   unfolding imageOf imageBytes cleared
   returned e =
-      rw (front, g .count)
-      (ap (λ (r : List ℕ). header (widthOf f) (heightOf f) ++ r) (raster-cleared (widthOf f) (heightOf f) (raster f) (raster-below f e)))
+      rw (front)
+      (ap (λ (r : List ℕ). header (widthOf f) (heightOf f) ++ r) (raster-cleared (widthOf f) (heightOf f) (raster f) (raster-below f e) (g .count)))
 
   same : unusedZero f ≡ true → cleared f ≡ f
   unfolding cleared
   same z =
-      rw (front, g .count)
+      rw (front)
       (ap (λ (r : List ℕ). header (widthOf f) (heightOf f) ++ r) (cleared-same (widthOf f) (raster f) (heightOf f) (g .count) (none-set f z))
       ∙ header-kept f (g .form))
 
@@ -101,11 +101,15 @@ checked f a = record {
   small = λ i l. binary-at (imageOf f) i (a .binary);
 }
 
+back-only : (f : List ℕ) → fileVerdict f ≡ Accepted → imageBytes (widthOf f) (heightOf f) (imageOf f) ≡ f → unusedZero f ≡ true
+back-only f e q = ap unusedZero (sym q) ∙ zeros (widthOf f) (heightOf f) (imageOf f) (checked f (accepted-file f e))
+
 pub image-round-trip : ImageRoundTrip
 image-round-trip = record {
   image-back = λ w h px e. back w h px (pixels-good w h px e);
   file-cleared = λ f b e. returned f (file-good f e) b;
   file-back = λ f b e z. returned f (file-good f e) b ∙ same f (file-good f e) z;
+  back-zero = back-only;
   written-zero = λ w h px e. zeros w h px (pixels-good w h px e);
   read-checked = λ f e. good-pixels _ _ _ (checked f (accepted-file f e));
 }

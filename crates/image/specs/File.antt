@@ -1,4 +1,4 @@
--- Image files (01: the reader 9 to 12 in order, then 13; the writer 10, 11, 12, then 13).
+-- Image files (01: the reader 9, 10, 11, then 13; the writer 10, 11, 12, then 13). What unused bits are: Padding.
 --     rasterPixel w r row col    the pixel at a row and a column of the raster r: the leftmost is the highest bit
 --     pixelsOf w h r        the pixels of the raster r, in row order
 --     imageOf f             the pixels of an accepted file
@@ -21,7 +21,6 @@ use lib.ListN.{length, getD}
 use Rattle.image.specs.declared.ImageRead.{ImageRead}
 use Rattle.image.specs.declared.ImageRead.the-variants as read
 use Rattle.image.specs.Header.{raster, headerForm, widthOf, heightOf, header}
-use Rattle.image.specs.Padding.{paddingSet}
 use Rattle.image.specs.Size.{badSize, rowBytes}
 use Rattle.seq.specs.Tab.{tab, first}
 use Rattle.verdict.specs.declared.Verdict.{Verdict}
@@ -44,7 +43,6 @@ fileRules f =
     refuseIf (not (headerForm f)) 9 0
     ∷ refuseIf (badSize (widthOf f) (heightOf f)) 10 0
     ∷ refuseIf (not (eqb (length (raster f)) (rowBytes (widthOf f) * heightOf f))) 11 0
-    ∷ refuseAt (first (paddingSet (widthOf f) (raster f)) (heightOf f)) 12 (λ row. row)
     ∷ []
 
 unfoldable pub fileVerdict : List ℕ → Verdict

@@ -3,6 +3,7 @@ pub mod Header
 pub mod File
 pub mod Padding
 pub mod RoundTrip
+pub mod Ignored
 pub mod Cases
 pub mod Answers
 pub mod Code

@@ -3,6 +3,7 @@
 --     paddingSet w r row    one of a row of the raster r is 1
 --     unusedZero f          none of the file f is
 --     clearedByte w r i     byte i of the raster r, with zeros in its unused bits
+--     clearedRaster w r     the raster r with zeros in its unused bits
 --     cleared f             the file f with zeros in its unused bits
 -- Assumes nothing.
 use mathlib.Core.Bool.{Bool, not, cond}
@@ -27,5 +28,8 @@ unusedZero f = not (any (paddingSet (widthOf f) (raster f)) (upTo (heightOf f)))
 unfoldable pub clearedByte : ℕ → List ℕ → ℕ → ℕ
 clearedByte w r i = cond (eqb (i % rowBytes w) (rowBytes w - 1)) (getD r i 0 - getD r i 0 % 2 ^ unused w) (getD r i 0)
 
+abbrev pub clearedRaster : ℕ → List ℕ → List ℕ
+clearedRaster w r = tab (clearedByte w r) (length r)
+
 unfoldable pub cleared : List ℕ → List ℕ
-cleared f = take (length f - length (raster f)) f ++ tab (clearedByte (widthOf f) (raster f)) (length (raster f))
+cleared f = take (length f - length (raster f)) f ++ clearedRaster (widthOf f) (raster f)

@@ -1,4 +1,4 @@
--- Images there and back (01, demand 2: files round-trip to the byte).
+-- Images there and back (01, demand 2: files round-trip to the byte; 02, T-02: where their unused bits are zero, else with zeros there).
 --     ReadBack w h px     what reading the file of an image gives
 --     ImageRoundTrip      an image written and read, a file read and written
 -- Assumes nothing.
@@ -23,9 +23,10 @@ pub record ImageRoundTrip : Type 0 where
   pub image-back : (w h : ℕ) (px : List ℕ) → pixelVerdict w h px ≡ Accepted → ReadBack w h px
   -- an accepted file, read and written, has its own bytes with zeros in the unused bits
   pub file-cleared : (f : List ℕ) → areBytes f ≡ true → fileVerdict f ≡ Accepted → imageBytes (widthOf f) (heightOf f) (imageOf f) ≡ cleared f
-  -- so where these are zero, it has the same bytes
+  -- so where these are zero, and only there, it has the same bytes
   pub file-back : (f : List ℕ) → areBytes f ≡ true → fileVerdict f ≡ Accepted → unusedZero f ≡ true
       → imageBytes (widthOf f) (heightOf f) (imageOf f) ≡ f
+  pub back-zero : (f : List ℕ) → fileVerdict f ≡ Accepted → imageBytes (widthOf f) (heightOf f) (imageOf f) ≡ f → unusedZero f ≡ true
   -- the writer puts zeros there
   pub written-zero : (w h : ℕ) (px : List ℕ) → pixelVerdict w h px ≡ Accepted → unusedZero (imageBytes w h px) ≡ true
   -- what the reader gives, the writer accepts

@@ -1,10 +1,8 @@
-// How an image file is laid out, judged by rules 9 to 12 in order.
+// How an image file is laid out, judged by rules 9 to 11 in order.
 use crate::header;
 use crate::header::Header;
-use crate::raster;
 use crate::size;
 use verdict::Refusal;
-use verdict::Verdict;
 ghost use mathlib.Core.Path.{_≡_};
 ghost use Rattle.image.specs.Code.Layout.{layoutOf};
 ghost use Rattle.verdict.specs.Rules.{refusal};
@@ -34,18 +32,13 @@ pub(crate) fn read(file: &[u8]) -> Layout
     if size::is_bad(width, height) {
         return refused(verdict::SIZE_RANGE);
     }
-    let raster = &file[start..];
-    if raster.len() != size::row_bytes(width) * height {
+    if file.len() - start != size::row_bytes(width) * height {
         return refused(verdict::RASTER_LENGTH);
     }
-    let padding = raster::check_padding(raster, width, height);
-    match padding {
-        Verdict::Accepted => Layout::Image {
-            width,
-            height,
-            start,
-        },
-        Verdict::Refused(refusal) => Layout::Refused(refusal),
+    Layout::Image {
+        width,
+        height,
+        start,
     }
 }
 

@@ -13,7 +13,6 @@ mod layout;
 mod number;
 mod pack;
 mod pixels;
-mod raster;
 pub mod size;
 mod unpack;
 
@@ -26,7 +25,7 @@ pub enum ImageRead {
     Refused(Refusal),
 }
 
-// Reads an image file into the front of an area: 9 to 12 in order, then 13. All is judged before the first byte is stored.
+// Reads an image file into the front of an area: 9, 10, 11, then 13; unused bits are ignored. All is judged before the first byte is stored.
 pub fn read(file: &[u8], area: &mut [u8]) -> ImageRead
     ensures { λ r. ⌜ (r ≡ imageRead (now (file .entry)) (length (now (area .entry))))
         × (now (area .exit) ≡ imageArea (now (file .entry)) (now (area .entry))) ⌝ }

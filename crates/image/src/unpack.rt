@@ -1,4 +1,4 @@
-// Unpacking a raster (01, The sheet): a byte gives up to eight pixels, the leftmost from the highest bit.
+// Unpacking a raster (01, The sheet): a byte gives up to eight pixels, the leftmost from the highest bit; unused bits give none.
 use crate::size;
 use crate::size::BYTE_PIXELS;
 ghost use mathlib.Core.Path.{_≡_};

@@ -1,25 +1,28 @@
--- What a case of 01's "Trial sheets and tables" asks of the definitions.
+-- What a case of 01's "Trial sheets and tables", or one that a request of 02 adds, asks of the definitions.
 --     Case                a case with what is expected
 --     sameTable t u       the two records are equal
 --     refusedWith v n p   the verdict refuses by number n at place p
 --     inner w h i         pixel i lies in the inside of the image
 --     countsAre j s p a r     the record has stage s, p passes, a added and r removed
+--     ran t f             record and areas after a file is loaded with a table, and run
 --     meets c             the definitions give what is expected
 -- Assumes nothing.
 use mathlib.Core.Bool.{Bool, false, not, _&&_}
 use mathlib.Core.List.{List, [], _∷_}
 use Prim.Native.Nat.{ℕ, _-_, _*_, _/_, _%_}
 use lib.Dec.{eqb, leb, ltb}
-use lib.ListN.{replicate}
+use lib.ListN.{length, replicate}
 use Rattle.operator.specs.Image.{differsAt}
 use Rattle.operator.specs.Pass.{opened}
 use Rattle.operator.specs.Plain.{plain}
 use Rattle.history.specs.declared.Job.{Job}
 use Rattle.history.specs.Call.{load, run}
+use Rattle.history.specs.Collect.{collectOutput}
 use Rattle.history.specs.Source.{fromFile}
 use Rattle.history.specs.Demand3.{played}
+use Rattle.history.specs.State.{State}
 use Rattle.history.specs.View.{viewOf}
-use Rattle.image.specs.File.{imageBytes}
+use Rattle.image.specs.Header.{widthOf, heightOf}
 use Rattle.seq.specs.Lists.{all, count, same, sameList}
 use Rattle.seq.specs.Tab.{upTo}
 use Rattle.table.specs.declared.Table.{Table}
@@ -35,8 +38,10 @@ pub data Case : Type 0 where
   -- number and place of a file, of a record
   fileRefused : List ℕ → ℕ → ℕ → Case
   recordRefused : Table → ℕ → ℕ → Case
-  -- table, width, height, image: loaded and run, it rests as this image with these passes, added, removed
-  rests : Table → ℕ → ℕ → List ℕ → List ℕ → ℕ → ℕ → ℕ → Case
+  -- table, image file: loaded and run, it rests as this image with these passes, added, removed
+  rests : Table → List ℕ → List ℕ → ℕ → ℕ → ℕ → Case
+  -- table, image file: loaded, run and collected, it is this file
+  collects : Table → List ℕ → List ℕ → Case
   -- a pixel that is not opened for a value: table, width, height, image, value, row, column
   notOpened : Table → ℕ → ℕ → List ℕ → ℕ → ℕ → ℕ → Case
   -- the plain rule changes exactly the pixels that do not touch the border, and they are so many
@@ -56,13 +61,17 @@ abbrev pub countsAre : Job → ℕ → ℕ → ℕ → ℕ → Bool
 countsAre j stage passes added removed =
     eqb (j .stage) stage && (eqb (j .passes) passes && (eqb (j .added) added && eqb (j .removed) removed))
 
+abbrev pub ran : Table → List ℕ → State
+ran t f =
+    let n = widthOf f * heightOf f in
+    played (load t (fromFile f) ∷ run ∷ []) (replicate n 0) (replicate n 0) .state
+
 unfoldable pub meets : Case → Bool
 meets (tableFile t f) = (isAccepted (recordVerdict t) && isAccepted (fileVerdict f)) && (sameList (tableBytes t) f && sameTable (tableOf f) t)
 meets (fileRefused f n p) = refusedWith (fileVerdict f) n p
 meets (recordRefused t n p) = refusedWith (recordVerdict t) n p
-meets (rests t w h img end passes added removed) =
-    let s = played (load t (fromFile (imageBytes w h img)) ∷ run ∷ []) (replicate (w * h) 0) (replicate (w * h) 0) .state in
-    countsAre (s .job) 2 passes added removed && sameList (viewOf s) end
+meets (rests t f end passes added removed) = countsAre (ran t f .job) 2 passes added removed && sameList (viewOf (ran t f)) end
+meets (collects t f g) = sameList (collectOutput (replicate (length g) 0xA5) (ran t f)) g
 meets (notOpened t w h img v r c) = not (opened t w h img v r c)
 meets (plainInner t w h img n) =
     let new = plain t w h img in

@@ -1,16 +1,18 @@
--- 01's cases marked (P), as one list, and one theorem that the checker computes over the list.
+-- 01's cases marked (P) and those of 02, as one list, and one theorem that the checker computes over the list.
 --     cases            the cases
 --     cases-met        the definitions give what each expects
 -- Assumes nothing.
 use mathlib.Core.Bool.{true}
-use mathlib.Core.List.{List, [], _∷_}
+use mathlib.Core.List.{List, [], _∷_, _++_}
 use mathlib.Core.Path.{_≡_, refl}
 use lib.ListN.{replicate}
 use Rattle.history.specs.Computing.{computing}
+use Rattle.image.specs.File.{imageBytes}
+use Rattle.image.specs.Header.{header}
 use Rattle.operator.specs.Samples.{oneElement, ring, cross, dot, chessboard}
 use Rattle.seq.specs.Lists.{all}
 use Rattle.table.specs.declared.Table.{Table}
-use Rattle.trials.specs.Case.{Case, tableFile, fileRefused, recordRefused, rests, notOpened, plainInner, meets}
+use Rattle.trials.specs.Case.{Case, tableFile, fileRefused, recordRefused, rests, collects, notOpened, plainInner, meets}
 
 abbrev disjoint : Table
 disjoint = record { count = 2; elements = 2048 ∷ 8192 ∷ replicate 62 0; persistent = 12288 }
@@ -25,13 +27,17 @@ cases =
     ∷ fileRefused (0x02 ∷ 0x80 ∷ 0x10 ∷ 0x80 ∷ 0x40 ∷ 0x80 ∷ 0x60 ∷ []) 5 2
     ∷ recordRefused (oneElement 469440 4096) 7 1
     ∷ fileRefused (0x01 ∷ 0xC0 ∷ 0xD3 ∷ 0x1C ∷ 0x80 ∷ 0x20 ∷ []) 7 1
-    ∷ rests ring 5 5 (dot 25 12) (replicate 25 0) 1 0 1
-    ∷ rests ring 4 4 (dot 16 5) (dot 16 5) 0 0 0
+    ∷ rests ring (imageBytes 5 5 (dot 25 12)) (replicate 25 0) 1 0 1
+    ∷ rests ring (imageBytes 4 4 (dot 16 5)) (dot 16 5) 0 0 0
     ∷ notOpened ring 4 4 (dot 16 5) 0 0 0
-    ∷ rests ring 1 1 (0 ∷ []) (0 ∷ []) 0 0 0
-    ∷ rests ring 1 1 (1 ∷ []) (1 ∷ []) 0 0 0
-    ∷ rests cross 6 6 chessboard chessboard 0 0 0
+    ∷ rests ring (imageBytes 1 1 (0 ∷ [])) (0 ∷ []) 0 0 0
+    ∷ rests ring (imageBytes 1 1 (1 ∷ [])) (1 ∷ []) 0 0 0
+    ∷ rests cross (imageBytes 6 6 chessboard) chessboard 0 0 0
     ∷ plainInner cross 6 6 chessboard 16
+    -- T-02: ones in the unused bits
+    ∷ rests ring (header 5 5 ++ 0x00 ∷ 0x00 ∷ 0x21 ∷ 0x00 ∷ 0x00 ∷ []) (replicate 25 0) 1 0 1
+    ∷ collects ring (header 5 5 ++ 0x00 ∷ 0x00 ∷ 0x21 ∷ 0x00 ∷ 0x00 ∷ []) (header 5 5 ++ replicate 5 0x00)
+    ∷ collects ring (header 4 4 ++ 0x0F ∷ 0x4F ∷ 0x0F ∷ 0x0F ∷ []) (header 4 4 ++ 0x00 ∷ 0x40 ∷ 0x00 ∷ 0x00 ∷ [])
     ∷ []
 
 pub cases-met : all meets cases ≡ true

@@ -52,18 +52,13 @@ impl Image {
     }
 }
 
-/// The image of a file, by the rules 9 to 12.
+/// The image of a file, by the rules 9 to 11. Bits past the width are not looked at.
 pub fn parse(file: &[u8]) -> Result<Image, Refusal> {
     let (width, height, raster) = header(file).ok_or(Refusal::of(Reason::Header))?;
     check_size(width, height)?;
     let row_bytes = width.div_ceil(8);
     if raster.len() != row_bytes * height {
         return Err(Refusal::of(Reason::Raster));
-    }
-    for (y, row) in raster.chunks(row_bytes).enumerate() {
-        if (width..8 * row_bytes).any(|x| bit(row, x) == 1) {
-            return Err(Refusal::at(Reason::Unused, y));
-        }
     }
     Ok(Image::from_fn(width, height, |x, y| {
         bit(&raster[y * row_bytes..], x)
@@ -108,7 +103,7 @@ pub fn check_size(width: usize, height: usize) -> Result<(), Refusal> {
     }
 }
 
-/// Rules 9 to 12, then 13; fills the area and gives width and height.
+/// Rules 9 to 11, then 13; fills the area and gives width and height.
 pub fn read(file: &[u8], area: &mut [u8]) -> Result<(usize, usize), Refusal> {
     let image = parse(file)?;
     fill(area, &image.pixels)?;
@@ -131,7 +126,7 @@ pub fn check(width: usize, height: usize, pixels: &[u8]) -> Result<Image, Refusa
         return Err(Refusal::of(Reason::Raster));
     }
     if let Some(i) = pixels.iter().position(|p| *p > 1) {
-        return Err(Refusal::at(Reason::Unused, i / width));
+        return Err(Refusal::at(Reason::Pixel, i / width));
     }
     Ok(Image::new(width, height, pixels))
 }

@@ -8,6 +8,7 @@ use mask_cleaner::reference::image::file_of;
 use mask_cleaner::{library, reference};
 use std::collections::BTreeMap;
 use std::io::Write;
+use std::slice::ChunksExactMut;
 
 /// Prints a line past the capture of the test runner.
 pub fn report(line: &str) {
@@ -130,7 +131,11 @@ impl Stock {
         let mut files: Vec<Vec<u8>> = Vec::new();
         for _ in 0..4 {
             let (width, height) = (1 + random.below(longest), 1 + random.below(longest));
-            files.push(file_of(&random_image(width, height, random)));
+            let mut file = file_of(&random_image(width, height, random));
+            if random.percent(50) {
+                fill_unused(&mut file, width, height, random);
+            }
+            files.push(file);
         }
         let mut table = tables[0];
         for _ in 0..1 + random.below(3) {
@@ -178,6 +183,34 @@ fn damaged_file(mut file: Vec<u8>, random: &mut Random) -> Vec<u8> {
         1 => file.push(0),
         2 => file[place] ^= 1 << random.below(8),
         _ => file = b"P4\n257 1\n".to_vec(),
+    }
+    file
+}
+
+/// The rows of a file of that size, and how many low bits of a row's last byte stand for no pixel.
+fn rows_of(file: &mut [u8], width: usize, height: usize) -> (ChunksExactMut<'_, u8>, usize) {
+    let row_bytes = width.div_ceil(8);
+    let start = file.len() - row_bytes * height;
+    let rows = file[start..].chunks_exact_mut(row_bytes);
+    (rows, 8 * row_bytes - width)
+}
+
+/// Puts random bits where the file has unused ones, as some cameras do.
+pub fn fill_unused(file: &mut [u8], width: usize, height: usize, random: &mut Random) {
+    let (rows, unused) = rows_of(file, width, height);
+    for row in rows {
+        let last = row.len() - 1;
+        row[last] ^= random.below(1 << unused) as u8;
+    }
+}
+
+/// The file with zeros in its unused bits.
+pub fn cleared(file: &[u8], width: usize, height: usize) -> Vec<u8> {
+    let mut file = file.to_vec();
+    let (rows, unused) = rows_of(&mut file, width, height);
+    for row in rows {
+        let last = row.len() - 1;
+        row[last] = row[last] >> unused << unused;
     }
     file
 }

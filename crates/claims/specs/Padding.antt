@@ -1,0 +1,51 @@
+-- 02, T-02: unused bits of sheet files are ignored, written as 0, and never refused. (What they return as: Files.)
+--     ignored-answer, ignored-area, never-12             the reader
+--     load-ignored, load-course, load-never-12           load
+--     collected-zero                                     collect
+-- Assumes nothing.
+use mathlib.Core.Bool.{true}
+use mathlib.Core.List.{List}
+use mathlib.Core.Logic.{_≢_}
+use mathlib.Core.Path.{_≡_}
+use Prim.Native.Nat.{ℕ}
+use lib.ListN.{take}
+use Rattle.history.proofs.Padding.{job-padding}
+use Rattle.history.specs.Call.{load, collect, collected, answerOf, refusalOf}
+use Rattle.history.specs.Lists.{Course, step}
+use Rattle.history.specs.Source.{fromFile}
+use Rattle.history.specs.State.{State}
+use Rattle.image.proofs.Ignored.{padding-ignored}
+use Rattle.image.specs.File.{imageVerdict, imageRead, imageArea}
+use Rattle.image.specs.Padding.{unusedZero, cleared}
+use Rattle.table.specs.declared.Table.{Table}
+use Rattle.verdict.specs.declared.Refusal.{Refusal}
+use Rattle.verdict.specs.declared.Verdict.the-variants.{Refused}
+use Rattle.verdict.specs.declared.Written.the-variants.{Length}
+
+-- files that differ in unused bits alone: the same answer, refusals too, and the same area afterwards
+module _ (f g : List ℕ) (alike : cleared f ≡ cleared g) where
+  pub ignored-answer : (n : ℕ) → imageRead f n ≡ imageRead g n
+  ignored-answer = padding-ignored .answer f g alike
+
+  pub ignored-area : (area : List ℕ) → imageArea f area ≡ imageArea g area
+  ignored-area = padding-ignored .area f g alike
+
+  -- and from a load of either on, record, areas and history are the same
+  module _ (t : Table) where
+    pub load-ignored : (s : State) → answerOf (load t (fromFile f)) s ≡ answerOf (load t (fromFile g)) s
+    load-ignored = job-padding .answer t f g alike
+
+    pub load-course : (w : Course) → step (load t (fromFile f)) w ≡ step (load t (fromFile g)) w
+    load-course = job-padding .course t f g alike
+
+-- 12 never comes from a sheet file
+pub never-12 : (f : List ℕ) (n : ℕ) (r : Refusal) → imageVerdict f n ≡ Refused r → r .number ≢ 12
+never-12 = padding-ignored .never-12
+
+pub load-never-12 : (t : Table) (f : List ℕ) (s : State) (r : Refusal) → refusalOf (answerOf (load t (fromFile f)) s) ≡ Refused r → r .number ≢ 12
+load-never-12 = job-padding .never-12
+
+-- what an accepted collect leaves at the front of its output
+pub collected-zero : (out : List ℕ) (s : State) (m : ℕ) (after : List ℕ) → answerOf (collect out) s ≡ collected (Length m) after
+    → unusedZero (take m after) ≡ true
+collected-zero = job-padding .collected-zero
