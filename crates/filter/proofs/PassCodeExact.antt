@@ -15,9 +15,9 @@ use lib.Dec.{eqb}
 use lib.ListN.{length, getD}
 use Rattle.seq.specs.Lists.{one, all, count}
 use Rattle.seq.specs.Tab.{upTo}
-use Rattle.seq.proofs.Grid.{cell-below, grid-at, by-cell}
+use Rattle.seq.proofs.Grid.{cell-below, grid-at, grid-same, grid-ext}
 use Rattle.seq.proofs.Lists.{not-true-false, any-ext, all-ext, count-ext}
-use Rattle.seq.proofs.Tab.{getD-tab, tab-ext, upTo-elim}
+use Rattle.seq.proofs.Tab.{getD-tab, upTo-elim}
 use Rattle.table.specs.declared.Table.{Table}
 use Rattle.image.proofs.PixelsOf.{binary-at}
 use Rattle.table.specs.Mask.{positionCount, across, down, positions}
@@ -118,13 +118,11 @@ module _ (t : Table) (w h : ℕ) (img : List ℕ) (m : IsImage w h img) where
 
   -- at every index
   walked-index : (k : ℕ) → k < w * h → walkedAt (masks t) w h img codes (k / w) (k % w) ≡ switchedAt t w h img (k / w) (k % w)
-  walked-index =
-      by-cell w h (λ k. walkedAt (masks t) w h img codes (k / w) (k % w) ≡ switchedAt t w h img (k / w) (k % w))
-      (λ r c i j. grid-at w (walkedAt (masks t) w h img codes) r c j ∙ walked-at r c i j ∙ sym (grid-at w (switchedAt t w h img) r c j))
+  walked-index = grid-same w h (walkedAt (masks t) w h img codes) (switchedAt t w h img) walked-at
 
   pub walked-switched : walked (masks t) w h img codes ≡ switched t w h img
   unfolding walked switched
-  walked-switched = tab-ext (λ k. walkedAt (masks t) w h img codes (k / w) (k % w)) (λ k. switchedAt t w h img (k / w) (k % w)) (w * h) walked-index
+  walked-switched = grid-ext w h (walkedAt (masks t) w h img codes) (switchedAt t w h img) walked-at
 
   step-at : (u v k : ℕ) → List·Memᴰ k (upTo (w * h))
       → (eqb (getD img k 0) u && eqb (walkedAt (masks t) w h img codes (k / w) (k % w)) v) ≡ (eqb (getD img k 0) u && eqb (getD (switched t w h img) k 0) v)
@@ -166,7 +164,4 @@ module _ (t : Table) (w h : ℕ) (img : List ℕ) (m : IsImage w h img) where
 
     pub switched-pass : switched t w h img ≡ pass t w h img
     unfolding switched pass
-    switched-pass =
-        tab-ext (λ k. switchedAt t w h img (k / w) (k % w)) (λ k. passAt t w h img (k / w) (k % w)) (w * h)
-        (by-cell w h (λ k. switchedAt t w h img (k / w) (k % w) ≡ passAt t w h img (k / w) (k % w))
-        (λ r c i j. grid-at w (switchedAt t w h img) r c j ∙ switched-at r c i j ∙ sym (grid-at w (passAt t w h img) r c j)))
+    switched-pass = grid-ext w h (switchedAt t w h img) (passAt t w h img) switched-at

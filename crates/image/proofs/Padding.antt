@@ -20,11 +20,11 @@ use Rattle.image.specs.Header.{raster, widthOf, heightOf}
 use Rattle.image.specs.Padding.{unused, paddingSet, unusedZero, clearedByte, clearedRaster}
 use Rattle.image.specs.Size.{rowBytes}
 use Rattle.image.proofs.RowBytes.{row-bytes-fit}
-use Rattle.seq.proofs.Grid.{grid, cell-column, by-cell, grid-at}
+use Rattle.seq.proofs.Grid.{cell-column, by-cell, grid-ext}
 use Rattle.seq.proofs.HighFirst.{low-zero, clear-low, clear-high}
 use Rattle.seq.proofs.Lists.{either, not-eq-true}
 use Rattle.seq.proofs.Members.{any-false}
-use Rattle.seq.proofs.Tab.{length-tab, getD-tab, tab-ext, tab-of, upTo-intro}
+use Rattle.seq.proofs.Tab.{length-tab, getD-tab, tab-of, upTo-intro}
 
 module _ (w : ℕ) (r : List ℕ) where
   -- byte j of a row, which is the last or another
@@ -94,10 +94,7 @@ module _ (w : ℕ) (r : List ℕ) where
 
   pub pixels-cleared : (h : ℕ) → pixelsOf w h (clearedRaster w r) ≡ pixelsOf w h r
   unfolding pixelsOf
-  pixels-cleared h =
-      tab-ext (grid w (rasterPixel w (clearedRaster w r))) (grid w (rasterPixel w r)) (w * h)
-      (by-cell w h (λ i. grid w (rasterPixel w (clearedRaster w r)) i ≡ grid w (rasterPixel w r) i)
-      (λ row col p q. grid-at w (rasterPixel w (clearedRaster w r)) row col q ∙ pixel-cleared row col q ∙ sym (grid-at w (rasterPixel w r) row col q)))
+  pixels-cleared h = grid-ext w h (rasterPixel w (clearedRaster w r)) (rasterPixel w r) (λ row col p q. pixel-cleared row col q)
 
 pub none-set : (f : List ℕ) → unusedZero f ≡ true → (row : ℕ) → row < heightOf f → paddingSet (widthOf f) (raster f) row ≡ false
 unfolding unusedZero

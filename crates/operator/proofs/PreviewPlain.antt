@@ -8,7 +8,6 @@ use mathlib.Core.Bool.{Bool, true, cond, _&&_}
 use mathlib.Core.List.{List, List·Memᴰ}
 use mathlib.Core.Path.{_≡_, refl, sym, ap, ap₂, _∙_}
 use Prim.Native.Nat.{ℕ, zero, suc, _+_, _-_, _*_, _/_, _%_, _≤_, _<_}
-use native.Mathlib.Nat.{mul-comm, mod-lt, div-lt-iff-lt-mul}
 use native.Mathlib.Omega.{arith}
 use borrow.Author.Tests.{eqb-true, ltb-true}
 use lib.Dec.{eqb, ltb, lit<}
@@ -18,6 +17,7 @@ use Rattle.seq.specs.Bits.{bit, bitsOf}
 use Rattle.seq.specs.Lists.{any, all, one}
 use Rattle.seq.specs.Tab.{upTo}
 use Rattle.seq.proofs.Bits.{bitsOf-elim}
+use Rattle.seq.proofs.Grid.{grid-ext}
 use Rattle.seq.proofs.Lists.{and-left, and-right, any-ext, all-ext, all-elim}
 use Rattle.seq.proofs.Tab.{tab-ext, upTo-intro}
 use Rattle.image.proofs.PixelsOf.{binary-at}
@@ -130,6 +130,4 @@ module _ (w h : ℕ) (img : List ℕ) (is : IsImage w h img) (r c : ℕ) (hr : r
 
 pub preview-plain : Preview
 unfolding preview plain
-preview-plain w h img is =
-    tab-ext (λ i. fiveOrMore (pattern (window w h img (i / w) (i % w)))) (λ i. plainAt medianTable w h img (i / w) (i % w)) (w * h)
-    (λ i l. plain-at w h img is (i / w) (i % w) (div-lt-iff-lt-mul (is .wide) .1 (omega (arith, mul-comm w h))) (mod-lt i (is .wide)))
+preview-plain w h img is = grid-ext w h (λ r c. fiveOrMore (pattern (window w h img r c))) (plainAt medianTable w h img) (plain-at w h img is)

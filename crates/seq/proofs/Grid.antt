@@ -7,6 +7,7 @@
 --     cell-at                  a walk that carries r and c is at the cell of the index r · w + c
 --     cell-index, cell-sides   the index of a cell, and that row and column are within the grid
 --     by-cell                  what holds at every row and column holds at every index
+--     grid-same, grid-ext      tables that agree at every row and column agree at every index, and are equal as lists
 --     grid-at                  the table at the index r · w + c is g r c
 --     cell-tab                 and so is the list of it at a cell
 --     grid-row                 the rows before r, and row r, are the rows before r + 1
@@ -78,6 +79,15 @@ pub by-cell {ℓ} : (w h : ℕ) (P : ℕ → Type ℓ) → ((r c : ℕ) → r < 
 by-cell w h P f i l =
     let k : Cell w h i (i / w) (i % w) = record { row = refl; column = refl; below = l } in
     subst P (cell-index k) (f (i / w) (i % w) (cell-sides k .0) (cell-sides k .1))
+
+module _ {ℓ} {A : Type ℓ} (w h : ℕ) (f g : ℕ → ℕ → A) (same : (r c : ℕ) → r < h → c < w → f r c ≡ g r c) where
+  pub grid-same : (i : ℕ) → i < w * h → grid w f i ≡ grid w g i
+  grid-same i l =
+      let k : Cell w h i (i / w) (i % w) = record { row = refl; column = refl; below = l } in
+      same (i / w) (i % w) (cell-sides k .0) (cell-sides k .1)
+
+  pub grid-ext : tab (grid w f) (w * h) ≡ tab (grid w g) (w * h)
+  grid-ext = tab-ext (grid w f) (grid w g) (w * h) grid-same
 
 module _ {ℓ} {A : Type ℓ} (w : ℕ) (g : ℕ → ℕ → A) where
   pub grid-at : (r c : ℕ) → c < w → grid w g (r * w + c) ≡ g r c
