@@ -2,8 +2,10 @@
 --     Parts, parts         such bytes, as a reader of a number finds them
 --     magic-split          a file by its first three bytes
 --     number-split, digits-only, after-digits     bytes by their digits; these are nothing but digits, and the byte behind them is none
---     Pieces, laid, LaidOut, laid-out     a file laid out from such parts, and what a reader finds in it
---     SameHeader, header-same     a file with another raster in place of its own has the same header
+--     HeaderRead           what a reader finds: whether the form is strict, width, height, and what follows the header
+--     Pieces, laid, formOf, laid-out     a file laid out from such parts, as it is read
+--     pieces, whole        those of a file, and that it is laid out from them
+--     header-same          a file with another raster in place of its own has the same header
 -- Assumes nothing.
 use mathlib.Core.Bool.{Bool, true, false, cond, _&&_}
 use mathlib.Core.List.{List, [], _∷_, _++_, append-nil, append-assoc}
@@ -40,7 +42,7 @@ parts ds b t e n =
       rest = rw c (drop-append-add ds (b ∷ t) 1);
     }
 
-pub magic-split : (f : List ℕ) → 2 < length f → getD f 0 0 ∷ getD f 1 0 ∷ getD f 2 0 ∷ drop 3 f ≡ f
+magic-split : (f : List ℕ) → 2 < length f → getD f 0 0 ∷ getD f 1 0 ∷ getD f 2 0 ∷ drop 3 f ≡ f
 magic-split [] h = absurd (not-suc-le-zero h)
 magic-split (x ∷ []) h = absurd (omega arith)
 magic-split (x ∷ y ∷ []) h = absurd (omega arith)
@@ -62,6 +64,12 @@ after-digits (b ∷ bytes) = step (isDigit b) refl (after-digits bytes)
     step true e below = below
     step false e below = e
 
+pub record HeaderRead (f : List ℕ) (form : Bool) (w h : ℕ) (r : List ℕ) : Type 0 where
+  pub formed : headerForm f ≡ form
+  pub width : widthOf f ≡ w
+  pub height : heightOf f ≡ h
+  pub rest : raster f ≡ r
+
 -- what may stand before a raster: three bytes, digits and a byte that is none, twice
 pub record Pieces : Type 0 where
   pub m₀ : ℕ
@@ -79,21 +87,18 @@ pub record Pieces : Type 0 where
 abbrev pub laid : Pieces → List ℕ → List ℕ
 laid p r = p .m₀ ∷ p .m₁ ∷ p .m₂ ∷ (p .wide ++ p .stop ∷ (p .high ++ p .end ∷ r))
 
-pub record LaidOut (p : Pieces) (r : List ℕ) : Type 0 where
-  pub form : headerForm (laid p r)
-      ≡ ((eqb (p .m₀) 0x50 && (eqb (p .m₁) 0x34 && eqb (p .m₂) 0x0A))
-      && ((strict (p .wide) && eqb (p .stop) space) && (strict (p .high) && eqb (p .end) lineFeed)))
-  pub width : widthOf (laid p r) ≡ decimalValue (p .wide)
-  pub height : heightOf (laid p r) ≡ decimalValue (p .high)
-  pub rest : raster (laid p r) ≡ r
+abbrev pub formOf : Pieces → Bool
+formOf p =
+    (eqb (p .m₀) 0x50 && (eqb (p .m₁) 0x34 && eqb (p .m₂) 0x0A))
+    && ((strict (p .wide) && eqb (p .stop) space) && (strict (p .high) && eqb (p .end) lineFeed))
 
-pub laid-out : (p : Pieces) (r : List ℕ) → LaidOut p r
+pub laid-out : (p : Pieces) (r : List ℕ) → HeaderRead (laid p r) (formOf p) (decimalValue (p .wide)) (decimalValue (p .high)) r
 unfolding headerForm startsMagic widthOf heightOf widthPart heightPart raster
 laid-out p r =
     let first = parts (p .wide) (p .stop) (p .high ++ p .end ∷ r) (p .wide-digits) (p .stop-none) in
     let second = parts (p .high) (p .end) r (p .high-digits) (p .end-none) in
     record {
-      form = simp (first .form, first .stop, first .rest, second .form, second .stop);
+      formed = simp (first .form, first .stop, first .rest, second .form, second .stop);
       width = simp (first .front);
       height = simp (first .rest, second .front);
       rest = simp (first .rest) (second .rest);
@@ -103,7 +108,7 @@ laid-append : (p : Pieces) (r : List ℕ) → laid p r ≡ laid p [] ++ r
 laid-append p r = simp append-assoc
 
 -- the pieces of a file
-abbrev pieces : List ℕ → Pieces
+abbrev pub pieces : List ℕ → Pieces
 pieces f = record {
   m₀ = getD f 0 0;
   m₁ = getD f 1 0;
@@ -118,15 +123,9 @@ pieces f = record {
   end-none = after-digits (heightPart f);
 }
 
-pub record SameHeader (f g r : List ℕ) : Type 0 where
-  pub form : headerForm g ≡ headerForm f
-  pub width : widthOf g ≡ widthOf f
-  pub height : heightOf g ≡ heightOf f
-  pub rest : raster g ≡ r
-
 -- a file that has room for its header is laid out from its pieces
 module _ (f : List ℕ) (room : rasterStart f ≤ length f) where
-  whole : laid (pieces f) (raster f) ≡ f
+  pub whole : laid (pieces f) (raster f) ≡ f
   unfolding rasterStart heightPart widthPart raster
   whole =
       let height = number-split (heightPart f) (omega (arith, ap length (height-place f) ∙ length-drop (3 + (digits (widthPart f) + 1)) f)) in
@@ -141,31 +140,35 @@ module _ (f : List ℕ) (room : rasterStart f ≤ length f) where
       ap (take (rasterStart f)) (sym whole ∙ laid-append (pieces f) (raster f))
       ∙ take-at (laid (pieces f) []) (raster f) (rasterStart f) (simp (length-append, long, long′) (omega arith))
 
-  same : (r : List ℕ) → SameHeader f (take (rasterStart f) f ++ r) r
+  same : (r : List ℕ) → HeaderRead (take (rasterStart f) f ++ r) (headerForm f) (widthOf f) (heightOf f) r
   same r =
       let own = laid-out (pieces f) (raster f) in
       let new = laid-out (pieces f) r in
       rw (front, ← laid-append (pieces f) r) (record {
-        form = new .form ∙ sym (own .form) ∙ ap headerForm whole;
+        formed = new .formed ∙ sym (own .formed) ∙ ap headerForm whole;
         width = new .width ∙ sym (own .width) ∙ ap widthOf whole;
         height = new .height ∙ sym (own .height) ∙ ap heightOf whole;
         rest = new .rest;
       })
 
-pub header-same : (f r : List ℕ) → length r ≡ length (raster f) → SameHeader f (take (length f - length (raster f)) f ++ r) r
+pub header-same : (f r : List ℕ) → length r ≡ length (raster f)
+    → HeaderRead (take (length f - length (raster f)) f ++ r) (headerForm f) (widthOf f) (heightOf f) r
 header-same f r e = ⊎-elim (λ t. short (ltb-true (length f) (rasterStart f) t)) (λ t. roomy (ltb-false (length f) (rasterStart f) t)) (either (ltb (length f) (rasterStart f)))
   where
+    Same : Type 0
+    Same = HeaderRead (take (length f - length (raster f)) f ++ r) (headerForm f) (widthOf f) (heightOf f) r
+
     count : length (raster f) ≡ length f - rasterStart f
     count = ap length (raster-place f) ∙ length-drop (rasterStart f) f
 
-    roomy : rasterStart f ≤ length f → SameHeader f (take (length f - length (raster f)) f ++ r) r
+    roomy : rasterStart f ≤ length f → Same
     roomy room = let place : length f - length (raster f) ≡ rasterStart f = omega (arith, count) in rw place (same f room r)
 
     -- there is no raster
-    short : length f < rasterStart f → SameHeader f (take (length f - length (raster f)) f ++ r) r
+    short : length f < rasterStart f → Same
     short l =
         let nothing : raster f ≡ [] = drop-of-length-le (raster f) {i = 0} (omega (arith, count)) in
         let none : r ≡ [] = drop-of-length-le r {i = 0} (omega (arith, count, e)) in
         let itself : take (length f - length (raster f)) f ++ r ≡ f =
         rw (none, nothing) (append-nil (take (length f - 0) f) ∙ take-all (length f - 0) f (omega arith)) in
-        rw itself (record { form = refl; width = refl; height = refl; rest = nothing ∙ sym none })
+        rw itself (record { formed = refl; width = refl; height = refl; rest = nothing ∙ sym none })

@@ -9,11 +9,11 @@ use Prim.Native.Nat.{ℕ, _*_}
 use lib.Dec.{ltb}
 use lib.ListN.{length}
 use Rattle.image.specs.File.{fileVerdict, imageVerdict, imageRead, imageArea, imageOf}
-use Rattle.image.specs.Header.{raster, widthOf, heightOf}
+use Rattle.image.specs.Header.{raster, headerForm, widthOf, heightOf}
 use Rattle.image.specs.Ignored.{PaddingIgnored}
 use Rattle.image.specs.Padding.{clearedByte, clearedRaster, cleared}
 use Rattle.image.proofs.Facts.{file-numbers}
-use Rattle.image.proofs.HeaderParts.{SameHeader, header-same}
+use Rattle.image.proofs.HeaderParts.{HeaderRead, header-same}
 use Rattle.image.proofs.Padding.{pixels-cleared}
 use Rattle.seq.proofs.Tab.{length-tab}
 use Rattle.verdict.specs.Numbers.{OneOf}
@@ -34,7 +34,7 @@ module _ (f : List ℕ) where
   long : length zeros ≡ length (raster f)
   long = length-tab (clearedByte (widthOf f) (raster f)) (length (raster f))
 
-  same-header : SameHeader f (cleared f) zeros
+  same-header : HeaderRead (cleared f) (headerForm f) (widthOf f) (heightOf f) zeros
   unfolding cleared
   same-header = header-same f zeros long
 
@@ -43,7 +43,7 @@ module _ (f : List ℕ) where
   as-cleared =
       let h = same-header in
       record {
-        verdict = rw (h .form, h .width, h .height, h .rest, long);
+        verdict = rw (h .formed, h .width, h .height, h .rest, long);
         width = h .width;
         height = h .height;
         pixels = rw (h .width, h .height, h .rest) (pixels-cleared (widthOf f) (raster f) (heightOf f));

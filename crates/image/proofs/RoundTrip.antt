@@ -13,12 +13,13 @@ use Rattle.image.specs.Code.Layout.{rasterStart}
 use Rattle.image.specs.Code.Rows.{Sides, rasterOf}
 use Rattle.image.specs.File.{fileVerdict, imageBytes, rowByte, imageOf}
 use Rattle.image.specs.Header.{raster, widthOf, heightOf, header}
-use Rattle.image.specs.Padding.{paddingSet, unusedZero, cleared}
+use Rattle.image.specs.Padding.{paddingSet, unusedZero, clearedRaster, cleared}
 use Rattle.image.specs.RoundTrip.{ReadBack, ImageRoundTrip}
 use Rattle.image.specs.Size.{rowBytes}
 use Rattle.image.proofs.Facts.{FileGood, file-good, good-file, AcceptedFile, accepted-file}
-use Rattle.image.proofs.HeaderBack.{HeaderRead, header-back, header-kept}
+use Rattle.image.proofs.HeaderBack.{header-back, header-kept}
 use Rattle.image.proofs.HeaderOf.{raster-place}
+use Rattle.image.proofs.HeaderParts.{HeaderRead}
 use Rattle.image.proofs.Padding.{cleared-same, none-set}
 use Rattle.image.proofs.PixelsOf.{PixelsGood, pixels-good, good-pixels, binary-at}
 use Rattle.image.proofs.RasterBack.{rows-clean, rows-back, raster-cleared}
@@ -43,13 +44,13 @@ module _ (w h : ℕ) (px : List ℕ) (g : PixelsGood w h px) where
   both : Sides w h
   both = sides w h (g .size)
 
-  read : HeaderRead (imageBytes w h px) w h (rasterOf w h px)
+  read : HeaderRead (imageBytes w h px) true w h (rasterOf w h px)
   unfolding imageBytes
   read = header-back w h (rasterOf w h px) (omega (arith, both)) (omega (arith, both))
 
   written-good : FileGood (imageBytes w h px)
   written-good = record {
-    form = read .form;
+    form = read .formed;
     size = rw (read .width, read .height) (g .size);
     count = rw (read .rest, read .width, read .height) (length-tab (grid (rowBytes w) (rowByte w px)) (rowBytes w * h));
   }
@@ -74,25 +75,24 @@ module _ (w h : ℕ) (px : List ℕ) (g : PixelsGood w h px) where
       )
 
 module _ (f : List ℕ) (g : FileGood f) where
-  -- what stands before the raster is the header of the file's size
-  front : take (length f - length (raster f)) f ≡ header (widthOf f) (heightOf f)
-  front =
+  -- the header of the file's size, and the raster with zeros in its unused bits
+  cleared-laid : cleared f ≡ header (widthOf f) (heightOf f) ++ clearedRaster (widthOf f) (raster f)
+  unfolding cleared
+  cleared-laid =
       let whole = header-kept f (g .form) in
       let long = ap length (sym whole) ∙ length-append (header (widthOf f) (heightOf f)) (raster f) in
-      ap (take (length f - length (raster f))) (sym whole) ∙ take-at (header (widthOf f) (heightOf f)) (raster f) (length f - length (raster f)) (omega (arith, long))
+      ap (λ (l : List ℕ). l ++ clearedRaster (widthOf f) (raster f))
+      (ap (take (length f - length (raster f))) (sym whole)
+      ∙ take-at (header (widthOf f) (heightOf f)) (raster f) (length f - length (raster f)) (omega (arith, long)))
 
   returned : areBytes f ≡ true → imageBytes (widthOf f) (heightOf f) (imageOf f) ≡ cleared f
-  unfolding imageOf imageBytes cleared
+  unfolding imageOf imageBytes
   returned e =
-      rw (front)
-      (ap (λ (r : List ℕ). header (widthOf f) (heightOf f) ++ r) (raster-cleared (widthOf f) (heightOf f) (raster f) (raster-below f e) (g .count)))
+      ap (λ (r : List ℕ). header (widthOf f) (heightOf f) ++ r) (raster-cleared (widthOf f) (heightOf f) (raster f) (raster-below f e) (g .count))
+      ∙ sym cleared-laid
 
   same : unusedZero f ≡ true → cleared f ≡ f
-  unfolding cleared
-  same z =
-      rw (front)
-      (ap (λ (r : List ℕ). header (widthOf f) (heightOf f) ++ r) (cleared-same (widthOf f) (raster f) (heightOf f) (g .count) (none-set f z))
-      ∙ header-kept f (g .form))
+  same z = cleared-laid ∙ rw (cleared-same (widthOf f) (raster f) (heightOf f) (g .count) (none-set f z)) (header-kept f (g .form))
 
 checked : (f : List ℕ) → AcceptedFile f → PixelsGood (widthOf f) (heightOf f) (imageOf f)
 checked f a = record {
