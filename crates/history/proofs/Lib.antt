@@ -28,4 +28,5 @@ pub mod Twins
 pub mod Reload
 pub mod Demand2
 pub mod Demand3
+pub mod SameSource
 pub mod Padding
