@@ -1,4 +1,4 @@
--- 01, demand 2: tables and sheets written and read back are the same, and accepted files written back have the same bytes; a sheet's with zeros in
+-- 01, demand 2: tables and images written and read back are the same, and accepted files written back have the same bytes; an image's with zeros in
 -- its unused bits.
 --     table-back, table-file-back, table-read-checked     tables
 --     image-accepted, image-size, image-back, image-written-zero, image-file-cleared, image-file-back, image-back-zero,

@@ -1,4 +1,4 @@
--- 02, T-02: unused bits of sheet files are ignored, written as 0, and never refused. (What they return as: Files.)
+-- 02, T-02: the unused bits of an image file are ignored, never refused, and written as 0. (What a file returns as: Files.)
 --     ignored-answer, ignored-area, never-12             the reader
 --     load-ignored, load-course, load-never-12           load
 --     collected-zero                                     collect
@@ -38,7 +38,7 @@ module _ (f g : List ℕ) (alike : cleared f ≡ cleared g) where
     pub load-course : (w : Course) → step (load t (fromFile f)) w ≡ step (load t (fromFile g)) w
     load-course = job-padding .course t f g alike
 
--- 12 never comes from a sheet file
+-- 12 never comes from a file
 pub never-12 : (f : List ℕ) (n : ℕ) (r : Refusal) → imageVerdict f n ≡ Refused r → r .number ≢ 12
 never-12 = padding-ignored .never-12
 
