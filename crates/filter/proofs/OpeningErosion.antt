@@ -4,23 +4,24 @@
 --     erode-none, erode-set, erode-clear        the erosion: at the start, after a position of the element, after another one
 --     dilate-none, dilate-set, dilate-clear     the same for the colours that are spread
 --     opened-spread, open-joined                what both loops together compute
---     coded-codes, cleared-codes                whatever has a test's bits is a code, and so is 0
---     masks-none, masks-more                    for a list of persistent elements: at the start, after one more
+--     coded-codes                               whatever has a test's bits is a code
+--     masks-none, masks-more, masks-all         the loop over persistent elements: at the start, after one more, at the end
 -- Assumes nothing.
 use mathlib.Core.Bool.{Bool, true, false, _&&_, _||_, or-false, or-assoc}
-use mathlib.Core.List.{List, [], _∷_, _++_}
+use mathlib.Core.List.{List, []}
 use mathlib.Core.Path.{_≡_, sym, ap, _∙_}
 use Prim.Native.Nat.{ℕ, _+_, _-_, _*_, _≤_, _<_}
 use native.Mathlib.Nat.{mul-le-mul-right}
 use native.Mathlib.Omega.{arith}
 use lib.Bits.{bitAnd, bitOr}
-use lib.ListN.{getD}
+use lib.ListN.{length, getD, take}
+use lib.Seq.{take-all}
 use Rattle.seq.specs.Bits.{bit, bitsOf}
 use Rattle.seq.specs.Loops.{Swept}
 use Rattle.seq.specs.Tab.{upTo}
 use Rattle.table.specs.Mask.{positionCount, down, positions}
 use Rattle.seq.proofs.Lists.{any-ext}
-use Rattle.seq.proofs.Fronts.{any-snoc, all-snoc}
+use Rattle.seq.proofs.Fronts.{any-snoc, all-snoc, any-front}
 use Rattle.seq.proofs.Loops.{bits-set, bits-clear}
 use Rattle.filter.specs.Code.Erosion.{colours, margin, shift, span, eroded, spread, openedIn, openedBy, joined, Codes, Coded}
 use Rattle.filter.proofs.OpeningCodes.{colours-ext, colours-small, bit-colours, code-colours, and-colours, or-colours}
@@ -103,20 +104,24 @@ open-joined ps s l d c k =
 pub coded-codes : {p : ℕ → ℕ → Bool} {l : List ℕ} {lo hi : ℕ} → Coded p l lo hi → Codes l lo hi
 coded-codes {p} c = record { small = λ j a b. rw (c .coded j a b) (colours-small (p j)) }
 
-pub cleared-codes : {d e : List ℕ} {hi : ℕ} (lo : ℕ) → Swept (λ j. 0) d e 0 hi → Codes e lo hi
-cleared-codes lo w = record { small = λ j a b. omega (arith, w .inner j (omega arith) b) }
-
 module _ (s : ℕ) (l : List ℕ) where
   pub masks-none : {d e : List ℕ} {hi : ℕ} (lo : ℕ) → Swept (λ j. 0) d e 0 hi → Coded (openedBy [] s l) e lo hi
   unfolding openedBy
   masks-none lo w = record { coded = λ j a b. w .inner j (omega arith) b }
 
-  pub masks-more : (masks : List ℕ) (K : ℕ) {d e : List ℕ} {lo hi : ℕ} → Coded (openedBy masks s l) d lo hi → Coded (joined (openedIn (positions K) s l) d) e lo hi
-      → Coded (openedBy (masks ++ K ∷ []) s l) e lo hi
+  pub masks-more : (masks : List ℕ) (i : ℕ) {d e : List ℕ} {lo hi : ℕ} → i < length masks → Coded (openedBy (take i masks) s l) d lo hi
+      → Coded (joined (openedIn (positions (getD masks i 0)) s l) d) e lo hi → Coded (openedBy (take (i + 1) masks) s l) e lo hi
   unfolding openedBy joined
-  masks-more masks K {d} {e} {lo} {hi} c k = record { coded = λ j a b. k .coded j a b ∙ colours-ext _ _ (more j a b) }
+  masks-more masks i {d} {e} {lo} {hi} h c k = record { coded = λ j a b. k .coded j a b ∙ colours-ext _ _ (more j a b) }
     where
-      more : (j : ℕ) → lo ≤ j → j < hi → (v : ℕ) → v < 2 → joined (openedIn (positions K) s l) d j v ≡ openedBy (masks ++ K ∷ []) s l j v
-      more j a b v h =
-          rw (c .coded j a b) (ap (λ (t : Bool). t || openedIn (positions K) s l j v) (bit-colours (openedBy masks s l j) v h))
-          ∙ sym (any-snoc (λ M. openedIn (positions M) s l j v) masks K)
+      K : ℕ
+      K = getD masks i 0
+
+      more : (j : ℕ) → lo ≤ j → j < hi → (v : ℕ) → v < 2 → joined (openedIn (positions K) s l) d j v ≡ openedBy (take (i + 1) masks) s l j v
+      more j a b v u =
+          rw (c .coded j a b) (ap (λ (t : Bool). t || openedIn (positions K) s l j v) (bit-colours (openedBy (take i masks) s l j) v u))
+          ∙ sym (any-front (λ M. openedIn (positions M) s l j v) masks i 0 h)
+
+  pub masks-all : (masks : List ℕ) (i : ℕ) {e : List ℕ} {lo hi : ℕ} → length masks ≤ i → Coded (openedBy (take i masks) s l) e lo hi
+      → Coded (openedBy masks s l) e lo hi
+  masks-all masks i h c = rw (take-all i masks h) at c

@@ -3,12 +3,13 @@ use image::size::MAX_SIDE;
 use table::Table;
 use table::mask::POSITIONS;
 ghost use mathlib.Core.Bool.{true};
+ghost use mathlib.Core.List.{[]};
 ghost use mathlib.Core.Path.{_≡_};
 ghost use Prim.Native.Nat.{_+_, _-_, _*_, _/_, _%_, _^_, _≤_, _<_};
 ghost use lib.Bits.{bitAnd, bitOr};
 ghost use lib.Dec.{leb};
 ghost use lib.ListN.{length, getD};
-ghost use Rattle.filter.specs.Code.Erosion.{Openable, Framed, Codes, Coded, margin, stride, shift, span, eroded, spread, openedIn, joined};
+ghost use Rattle.filter.specs.Code.Erosion.{Openable, Framed, Codes, Coded, margin, stride, shift, span, eroded, spread, openedIn, openedBy, joined};
 ghost use Rattle.operator.specs.Image.{IsImage};
 ghost use Rattle.filter.specs.Code.OpeningMap.{openMap};
 ghost use Rattle.seq.specs.Bits.{bit};
@@ -55,7 +56,7 @@ fn blank() -> [u8; AREA] {
     [0u8; AREA]
 }
 
-// The same in lent scratch memory, for an image of any size. Where a table has several persistent elements, `open_for` is called for each.
+// The same in lent scratch memory, for an image of any size.
 fn open_in(
     table: Table,
     width: usize,
@@ -74,7 +75,8 @@ fn open_in(
     let reach = step * (height + MARGIN) - MARGIN;
     frame(width, height, pixels, framed);
     fill(opened, reach, NEITHER);
-    open_for(table.persistent, step, reach, framed, solid, opened);
+    let persistents = [table.persistent];
+    open_each(&persistents, step, reach, framed, solid, opened);
     unframe(width, height, opened, map);
 }
 
@@ -113,7 +115,25 @@ fn encode(pixels: &[u8], from: usize, out: &mut [u8], to: usize, count: usize)
     }
 }
 
-// Adds to the map, in the framed image, what is opened by one persistent element.
+// Adds to the map, in the framed image, what is opened by each persistent element in turn.
+fn open_each(
+    masks: &[u32],
+    step: usize,
+    reach: usize,
+    framed: &[u8],
+    solid: &mut [u8],
+    out: &mut [u8],
+)
+    requires { ⌜ (span step + reach ≤ length (now framed)) × (reach ≤ length (now solid)) × (span step + reach ≤ length (now out))
+        × (Coded (openedBy [] step (now framed)) (now out) (span step) reach) ⌝ }
+    ensures { λ r. ⌜ Coded (openedBy (now (masks .entry)) step (now (framed .entry))) (now (out .exit)) (span step) reach ⌝ }
+{
+    for i in 0..masks.len() {
+        open_for(masks[i], step, reach, framed, solid, out);
+    }
+}
+
+// Adds to the map what is opened by one persistent element.
 fn open_for(mask: u32, step: usize, reach: usize, framed: &[u8], solid: &mut [u8], out: &mut [u8])
     requires { ⌜ (span step + reach ≤ length (now framed)) × (reach ≤ length (now solid)) × (span step + reach ≤ length (now out))
         × (Codes (now out) (span step) reach) ⌝ }

@@ -1,9 +1,8 @@
 -- `opening::open_in` meets its contract: the opening in the frame, taken out of it, is the opening map.
 -- Assumes nothing.
-use mathlib.Core.List.{[]}
 use borrow.Author.Needs.{needs}
 use Rattle.table.specs.Record.{persistents}
-use Rattle.filter.proofs.OpeningErosion.{cleared-codes, masks-none, masks-more}
+use Rattle.filter.proofs.OpeningErosion.{masks-none}
 use Rattle.filter.proofs.OpeningMap.{opening-map}
 use Rattle.filter.proofs.opening.open_in.Statement.{statement}
 use Rattle.filter.proofs.opening.open_in.Tie as tie
@@ -26,8 +25,13 @@ frame-requires c κs = search needs
 fill-requires : tie.Need-fill-requires
 fill-requires c κs = search needs
 
-open-for-requires : tie.Need-open-for-requires
-open-for-requires c κs = (search needs, search needs, search needs, cleared-codes _ (c .before .before .before .before .before .fill .ensures))
+slice-aggregate-open-each : tie.Need-slice-aggregate-open-each
+slice-aggregate-open-each c = search needs
+
+open-each-requires : tie.Need-open-each-requires
+open-each-requires c κs =
+    let lent = c .before .before .before in
+    (search needs, search needs, search needs, masks-none _ _ _ (lent .before .before .before .fill .ensures))
 
 unframe-requires : tie.Need-unframe-requires
 unframe-requires c κs = search needs
@@ -47,13 +51,15 @@ same-length-4 c = search needs
 returns : tie.Need-returns
 unfolding persistents
 returns c =
-    let opens = c .before .before .before .before .before .before .before .before .before in
-    let fills = opens .before .before .before .before .before .before in
+    let unframes = c .before .before in
+    let known = unframes .before .before .before in
+    let opens = known .before .before .before .before in
+    let lent = opens .before .before .before .before in
+    let fills = lent .before .before .before in
     let frames = fills .before .before .before .before in
-    let start = frames .before .before .before .before .before .before .before in
-    opening-map _ _ _ _ (frames .frame .ensures) _ (start .pre .0 .wide) (start .pre .1)
-    (masks-more _ _ [] _ (masks-none _ _ _ (fills .fill .ensures)) (opens .open-for .ensures))
-    (c .before .before .unframe .ensures)
+    let entered = frames .before .before .before in
+    let start = entered .before .before .before .before in
+    opening-map _ _ _ _ (frames .frame .ensures) _ (start .pre .0 .wide) (start .pre .1) (opens .open-each .ensures) (unframes .unframe .ensures)
 
 pub open-in-spec : {M : Type 1} → statement M
 open-in-spec =
@@ -65,7 +71,8 @@ open-in-spec =
     sub-reach
     frame-requires
     fill-requires
-    open-for-requires
+    slice-aggregate-open-each
+    open-each-requires
     unframe-requires
     same-length
     same-length-2
