@@ -19,7 +19,7 @@ use Rattle.history.specs.declared.Passed.the-variants as passing
 use Rattle.history.specs.Call.{Call, load, pass, run, view, figures, collect, isLoad, isRun, isCollect, passed, shown, figured, collected, answerOf, stateOf, refusalOf}
 use Rattle.history.specs.Collect as collecting
 use Rattle.history.specs.declared.Figured.the-variants as figuring
-use Rattle.history.specs.Demand1.{afterPasses, Cause, unsound, stopped, not-collected, nothing-loaded, not-at-rest, reach}
+use Rattle.history.specs.Demand1.{afterPasses, stateNumbers, Cause, unsound, stopped, not-collected, nothing-loaded, not-at-rest, reach}
 use Rattle.history.specs.Lists.{lengthsOf}
 use Rattle.history.specs.Load.{areasRule}
 use Rattle.history.specs.Pass.{passOf}
@@ -32,6 +32,7 @@ use Rattle.table.specs.Record.{recordVerdict}
 use Rattle.verdict.specs.declared.Refusal.{Refusal}
 use Rattle.verdict.specs.declared.Verdict.the-variants.{Refused}
 use Rattle.verdict.specs.declared.Written.the-variants as writing
+use Rattle.verdict.specs.Numbers.{among}
 use Rattle.verdict.specs.Rules.{refusal, refuseIf, judge}
 
 -- a refused call: all else in its answer is zero, an output is as it was
@@ -82,10 +83,10 @@ module _ (c : Call) (s : State) where
     not-at-rest-refused l z = demand-1 .given c s 17 (not-at-rest sound l z)
 
   -- and under no other
-  pub by-cause : (r : Refusal) → refusalOf (answerOf c s) ≡ Refused r → 14 ≤ r .number → Cause c s (r .number) × (r .place ≡ 0)
+  pub by-cause : (r : Refusal) → refusalOf (answerOf c s) ≡ Refused r → among stateNumbers (r .number) ≡ true → Cause c s (r .number) × (r .place ≡ 0)
   by-cause = demand-1 .only c s
 
-  pub by-state : (r : Refusal) → isLoad c ≡ false → isCollect c ≡ false → refusalOf (answerOf c s) ≡ Refused r → 14 ≤ r .number
+  pub by-state : (r : Refusal) → isLoad c ≡ false → isCollect c ≡ false → refusalOf (answerOf c s) ≡ Refused r → among stateNumbers (r .number) ≡ true
   by-state = demand-1 .by-state c s
 
 -- 14's pass clause

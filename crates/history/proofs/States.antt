@@ -5,14 +5,14 @@
 --     pass-stopped, run-stopped     14's pass clause
 --     given, only, by-state   the claims
 -- Assumes nothing.
-use mathlib.Core.Bool.{Bool, true, false, _||_}
+use mathlib.Core.Bool.{Bool, true, false, not, _||_}
 use mathlib.Core.List.{List, [], _∷_}
 use mathlib.Core.Logic.{_⊎_, inl, inr, ⊎-elim}
 use mathlib.Core.Path.{_≡_, refl, sym, ap, _∙_}
-use Prim.Native.Nat.{ℕ, zero, suc, _+_, _≤_}
+use Prim.Native.Nat.{ℕ, zero, suc, _+_}
 use native.Mathlib.Omega.{arith}
-use borrow.Author.Tests.{ltb-true, lt-ltb, eqb-true, eqb-false, eq-eqb, ne-eqb, leb-true}
-use lib.Dec.{ltb, leb, eqb}
+use borrow.Author.Tests.{ltb-true, lt-ltb, eqb-true, eqb-false, eq-eqb, ne-eqb, not-true}
+use lib.Dec.{ltb, eqb}
 use lib.ListN.{length}
 use Rattle.operator.specs.Image.{differs}
 use Rattle.operator.proofs.Counts.{differs-equal, equal-differs}
@@ -21,7 +21,7 @@ use Rattle.history.specs.declared.Passed.the-variants as passing
 use Rattle.history.specs.Answers.{passedVerdict}
 use Rattle.history.specs.Call.{Call, load, pass, run, view, figures, collect, isLoad, isCollect, answerOf, refusalOf}
 use Rattle.history.specs.Collect.{collected, collectVerdict, collectWritten}
-use Rattle.history.specs.Demand1.{afterPasses, Goes, Stopped, Cause, unsound, stopped, not-collected, nothing-loaded, not-at-rest}
+use Rattle.history.specs.Demand1.{afterPasses, Goes, Stopped, stateNumbers, Cause, unsound, stopped, not-collected, nothing-loaded, not-at-rest}
 use Rattle.history.specs.Load.{areasRule, loadVerdict}
 use Rattle.history.specs.Pass.{Outcome, nextImage, nowAdded, nowRemoved, exceeds, passOf}
 use Rattle.history.specs.Sound.{Unsound, Overruns, Ready}
@@ -42,6 +42,7 @@ use Rattle.table.specs.Record.{recordVerdict}
 use Rattle.verdict.specs.declared.Refusal.{Refusal}
 use Rattle.verdict.specs.declared.Verdict.{Verdict}
 use Rattle.verdict.specs.declared.Verdict.the-variants.{Refused}
+use Rattle.verdict.specs.Numbers.{among}
 use Rattle.verdict.specs.Rules.{refusal, refuseIf, orElse, judge}
 use Rattle.verdict.proofs.Numbers.{one-of-passes}
 use Rattle.verdict.proofs.Rules.{refused-accepted, orElse-accepted, judge-append}
@@ -189,13 +190,13 @@ named {r = r} c s n p q x = let e : r ≡ refusal n 0 = cc in rw e (x, refl)
 
 -- refused because of the input
 low-load : (s : State) (good : state.unsound s ≡ false) (empty : s .job .stage ≡ 0) (t : Table) (x : Source) {r : Refusal}
-    → refusedWith (load t x) s ≡ Refused r → r .number ≤ 13
+    → refusedWith (load t x) s ≡ Refused r → among stateNumbers (r .number) ≡ false
 low-load s good empty t x {r} q =
-    leb-true (r .number) 13
-    (one-of-passes (λ n. leb n 13) (load-numbers t x (length (s .first)) (length (s .second))) refl (sym (empty-load s good empty t x) ∙ q))
+    not-true (among stateNumbers (r .number))
+    (one-of-passes (λ n. not (among stateNumbers n)) (load-numbers t x (length (s .first)) (length (s .second))) refl (sym (empty-load s good empty t x) ∙ q))
 
-low-collect : (b : Bool) {r : Refusal} → refuseIf b 13 0 ≡ Refused r → r .number ≤ 13
-low-collect true {r} q = let e : refusal 13 0 ≡ r = cc in omega (arith, ap (λ (x : Refusal). x .number) e)
+low-collect : (b : Bool) {r : Refusal} → refuseIf b 13 0 ≡ Refused r → among stateNumbers (r .number) ≡ false
+low-collect true {r} q = let e : refusal 13 0 ≡ r = cc in ap (λ (x : Refusal). among stateNumbers (x .number)) (sym e)
 low-collect false q = refused-accepted q refl
 
 -- a pass of a run that is refused
@@ -231,16 +232,16 @@ abbrev takes : Call → Bool
 takes c = isLoad c || isCollect c
 
 module _ (s : State) (good : state.unsound s ≡ false) {r : Refusal} where
-  only-empty : s .job .stage ≡ 0 → (c : Call) → refusedWith c s ≡ Refused r → (takes c ≡ true → 14 ≤ r .number)
+  only-empty : s .job .stage ≡ 0 → (c : Call) → refusedWith c s ≡ Refused r → (takes c ≡ true → among stateNumbers (r .number) ≡ true)
       → Cause c s (r .number) × (r .place ≡ 0)
-  only-empty z (load t x) q l = absurd (omega (arith, low-load s good z t x q, l refl))
+  only-empty z (load t x) q l = clash (l refl) (low-load s good z t x q)
   only-empty z pass q l = named pass s 16 q (empty-call s good z pass refl) (nothing-loaded (sound-none s good) refl z)
   only-empty z run q l = named run s 16 q (empty-call s good z run refl) (nothing-loaded (sound-none s good) refl z)
   only-empty z view q l = named view s 16 q (empty-call s good z view refl) (nothing-loaded (sound-none s good) refl z)
   only-empty z figures q l = named figures s 16 q (empty-call s good z figures refl) (nothing-loaded (sound-none s good) refl z)
   only-empty z (collect out) q l = named (collect out) s 16 q (empty-call s good z (collect out) refl) (nothing-loaded (sound-none s good) refl z)
 
-  only-ready : (s .job .stage ≡ 0 → ⊥) → (c : Call) → refusedWith c s ≡ Refused r → (takes c ≡ true → 14 ≤ r .number)
+  only-ready : (s .job .stage ≡ 0 → ⊥) → (c : Call) → refusedWith c s ≡ Refused r → (takes c ≡ true → among stateNumbers (r .number) ≡ true)
       → Cause c s (r .number) × (r .place ≡ 0)
   unfolding answerOf figuresOf
   only-ready n (load t x) q l = named (load t x) s 15 q (ready-load s good n t x) (not-collected (sound-none s good) refl n)
@@ -254,9 +255,9 @@ module _ (s : State) (good : state.unsound s ≡ false) {r : Refusal} where
       loaded e = let z = eqb-true (s .job .stage) 1 e in named (collect out) s 17 q (loaded-collect s good out n z) (not-at-rest (sound-none s good) refl z)
 
       stable : eqb (s .job .stage) 1 ≡ false → Cause (collect out) s (r .number) × (r .place ≡ 0)
-      stable e = absurd (omega (arith, low-collect (ltb (length out) (length (collected s))) (sym (stable-collect s good out n (eqb-false (s .job .stage) 1 e)) ∙ q), l refl))
+      stable e = clash (l refl) (low-collect (ltb (length out) (length (collected s))) (sym (stable-collect s good out n (eqb-false (s .job .stage) 1 e)) ∙ q))
 
-by-cause : (c : Call) (s : State) (r : Refusal) → refusedWith c s ≡ Refused r → (takes c ≡ true → 14 ≤ r .number)
+by-cause : (c : Call) (s : State) (r : Refusal) → refusedWith c s ≡ Refused r → (takes c ≡ true → among stateNumbers (r .number) ≡ true)
     → Cause c s (r .number) × (r .place ≡ 0)
 by-cause c s r q l = ⊎-elim bad good (either (state.unsound s))
   where
@@ -268,17 +269,17 @@ by-cause c s r q l = ⊎-elim bad good (either (state.unsound s))
         ⊎-elim (λ z. only-empty s e (eqb-true (s .job .stage) 0 z) c q l) (λ z. only-ready s e (eqb-false (s .job .stage) 0 z) c q l)
         (either (eqb (s .job .stage) 0))
 
-pub only : (c : Call) (s : State) (r : Refusal) → refusedWith c s ≡ Refused r → 14 ≤ r .number → Cause c s (r .number) × (r .place ≡ 0)
+pub only : (c : Call) (s : State) (r : Refusal) → refusedWith c s ≡ Refused r → among stateNumbers (r .number) ≡ true → Cause c s (r .number) × (r .place ≡ 0)
 only c s r q l = by-cause c s r q (λ e. l)
 
-cause-number : {c : Call} {s : State} {n : ℕ} → Cause c s n → 14 ≤ n
-cause-number (unsound u) = omega arith
-cause-number (stopped x) = omega arith
-cause-number (not-collected g l z) = omega arith
-cause-number (nothing-loaded g l z) = omega arith
-cause-number (not-at-rest g l z) = omega arith
+cause-number : {c : Call} {s : State} {n : ℕ} → Cause c s n → among stateNumbers n ≡ true
+cause-number (unsound u) = refl
+cause-number (stopped x) = refl
+cause-number (not-collected g l z) = refl
+cause-number (nothing-loaded g l z) = refl
+cause-number (not-at-rest g l z) = refl
 
-pub by-state : (c : Call) (s : State) (r : Refusal) → isLoad c ≡ false → isCollect c ≡ false → refusedWith c s ≡ Refused r → 14 ≤ r .number
+pub by-state : (c : Call) (s : State) (r : Refusal) → isLoad c ≡ false → isCollect c ≡ false → refusedWith c s ≡ Refused r → among stateNumbers (r .number) ≡ true
 by-state c s r a b q = cause-number (by-cause c s r q (λ e. clash e (rw (a, b))) .0)
 
 pub by-input : (t : Table) (x : Source) (s : State) → (Unsound s → ⊥) → s .job .stage ≡ 0

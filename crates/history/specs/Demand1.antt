@@ -3,7 +3,8 @@
 --     Goes k s           the first k passes answer "changed"
 --     RunEnds s          a run is passes called singly, up to the first that does not answer "changed"
 --     Stopped c s        14's pass clause, for a pass, and for a pass that a run comes to
---     Cause c s n        01's condition for the refusal n because of the state
+--     stateNumbers       01's numbers for a refusal because of the state; all others are because of the input or of an area
+--     Cause c s n        01's condition for such a refusal n
 --     reach c s          how many bytes of an area a call may write
 --     Areas c s          what a call leaves of the areas
 --     Demand1            the claim
@@ -29,6 +30,7 @@ use Rattle.table.specs.declared.Table.{Table}
 use Rattle.table.specs.Record.{recordVerdict}
 use Rattle.verdict.specs.declared.Refusal.{Refusal}
 use Rattle.verdict.specs.declared.Verdict.the-variants.{Refused}
+use Rattle.verdict.specs.Numbers.{among}
 use Rattle.verdict.specs.Rules.{refusal, refuseIf, judge}
 
 abbrev pub afterPasses : ℕ → State → State
@@ -54,6 +56,9 @@ Stopped run s = (k : ℕ) × Goes k s × Overruns (afterPasses k s)
 Stopped view s = ⊥
 Stopped figures s = ⊥
 Stopped (collect out) s = ⊥
+
+abbrev pub stateNumbers : List ℕ
+stateNumbers = 14 ∷ 15 ∷ 16 ∷ 17 ∷ []
 
 pub data Cause (c : Call) (s : State) : ℕ → Type 0 where
   unsound : Unsound s → Cause c s 14
@@ -87,10 +92,11 @@ pub record Demand1 : Type 0 where
   pub run-ends : (s : State) → RunEnds s
   -- 14 to 17 are given under their conditions and under no other, at place 0
   pub given : (c : Call) (s : State) (n : ℕ) → Cause c s n → refusalOf (answerOf c s) ≡ Refused (refusal n 0)
-  pub only : (c : Call) (s : State) (r : Refusal) → refusalOf (answerOf c s) ≡ Refused r → 14 ≤ r .number
+  pub only : (c : Call) (s : State) (r : Refusal) → refusalOf (answerOf c s) ≡ Refused r → among stateNumbers (r .number) ≡ true
       → Cause c s (r .number) × (r .place ≡ 0)
   -- pass, run, view and figures are refused for no other reason; load by its table and its source, then 13; collect by 13
-  pub by-state : (c : Call) (s : State) (r : Refusal) → isLoad c ≡ false → isCollect c ≡ false → refusalOf (answerOf c s) ≡ Refused r → 14 ≤ r .number
+  pub by-state : (c : Call) (s : State) (r : Refusal) → isLoad c ≡ false → isCollect c ≡ false → refusalOf (answerOf c s) ≡ Refused r
+      → among stateNumbers (r .number) ≡ true
   pub by-input : (t : Table) (x : Source) (s : State) → (Unsound s → ⊥) → s .job .stage ≡ 0
       → refusalOf (answerOf (load t x) s) ≡ judge (recordVerdict t ∷ sourceVerdict x ∷ areasRule x (length (s .first)) (length (s .second)) ∷ [])
   pub by-output : (out : List ℕ) (s : State) → (Unsound s → ⊥) → s .job .stage ≡ 2

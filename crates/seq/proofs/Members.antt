@@ -64,7 +64,7 @@ module _ {ℓ} {A : Type ℓ} where
   all-tab p f zero h = refl
   all-tab p f (suc n) h = and-intro (h zero (omega arith)) (all-tab p (λ k. f (suc k)) n (λ k l. h (suc k) (omega arith)))
 
-  pub map-ext : (f g : A → A) (l : List A) → ((a : A) → List·Memᴰ a l → f a ≡ g a) → map f l ≡ map g l
+  pub map-ext {κ} : {B : Type κ} (f g : A → B) (l : List A) → ((a : A) → List·Memᴰ a l → f a ≡ g a) → map f l ≡ map g l
   map-ext f g [] h = refl
   map-ext f g (x ∷ l) h = ap₂ _∷_ (h x (List·Memᴰ·head refl)) (map-ext f g l (λ a m. h a (List·Memᴰ·tail m)))
 
