@@ -1,6 +1,6 @@
 /* One pass and the preview as one would write them at once. The pass: the opening map, each translate judged once and
    spread, then the pixels that are not opened, each element with an early exit. A pixel that is opened never changes, since
-   the persistent element is persistent. */
+   the persistent elements are persistent. */
 #include "baseline.h"
 
 #include <string.h>
@@ -22,7 +22,8 @@ static int clamp(int value, int limit) {
     return value < 0 ? 0 : value >= limit ? limit - 1 : value;
 }
 
-static void open_image(const offsets *persistent, int width, int height, const uint8_t *image) {
+/* Adds to the map what a persistent element opens. */
+static void open_for(const offsets *persistent, int width, int height, const uint8_t *image) {
     int left = 2, right = -2, top = 2, bottom = -2, step[25];
     for (int i = 0; i < persistent->count; i++) {
         offset o = persistent->at[i];
@@ -32,7 +33,6 @@ static void open_image(const offsets *persistent, int width, int height, const u
         if (o.dy > bottom) bottom = o.dy;
         step[i] = o.dy * width + o.dx;
     }
-    memset(opened, 0, (size_t)width * height);
     for (int y = -top; y < height - bottom; y++)
         for (int x = -left; x < width - right; x++) {
             int p = y * width + x, i = 1;
@@ -55,9 +55,13 @@ static int all_opened(const offsets *element, int width, int height, int x, int 
 }
 
 void plain_pass(const mask_table *table, size_t width, size_t height, const uint8_t *image, uint8_t *next, pass_counts *counts) {
-    offsets elements[64], persistent = offsets_of(table->persistent);
+    offsets elements[64];
     for (size_t e = 0; e < table->count; e++) elements[e] = offsets_of(table->elements[e]);
-    open_image(&persistent, width, height, image);
+    memset(opened, 0, width * height);
+    for (size_t r = 0; r < table->ranks; r++) {
+        offsets persistent = offsets_of(table->persistents[r]);
+        open_for(&persistent, width, height, image);
+    }
     size_t changed[2] = {0, 0};
     for (size_t y = 0; y < height; y++)
         for (size_t x = 0; x < width; x++) {

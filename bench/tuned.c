@@ -1,7 +1,8 @@
 /* One pass laid out for a vectorising compiler. Planes have a frame of four bytes, so that nothing is tested at the edge:
      codes    1 for white, 2 for black, 0 in the frame
      eroded   at an origin, the bitwise and of the codes of the translate there: 1 or 2 if it is of one colour, else 0
-     opened   at a pixel, the bitwise or of eroded at the origins whose translates contain it; the frame repeats the edge.
+     opened   at a pixel, the bitwise or of eroded at the origins whose translates contain it, over all persistent elements;
+              the frame repeats the edge.
    The elements are tested as masks against the 25 bits of the window that are opened for the other colour. It takes the library's two
    shortcuts: a row in which every pixel is opened is done with, and a position that all elements share is looked at first. */
 #include "baseline.h"
@@ -34,7 +35,8 @@ static void fill_codes(int width, int height, int stride, const uint8_t *image) 
     }
 }
 
-static void open_image(const steps *persistent, int width, int height, int stride) {
+/* Adds to the map what a persistent element opens. */
+static void open_for(const steps *persistent, int width, int height, int stride) {
     for (int y = FRAME - 2; y < height + FRAME + 2; y++) {
         uint8_t *restrict row = eroded + y * stride;
         memset(row, 3, stride);
@@ -45,11 +47,18 @@ static void open_image(const steps *persistent, int width, int height, int strid
     }
     for (int y = FRAME; y < height + FRAME; y++) {
         uint8_t *restrict row = opened + y * stride;
-        memset(row, 0, stride);
         for (int i = 0; i < persistent->count; i++) {
             const uint8_t *restrict from = eroded + y * stride - persistent->step[i];
             for (int x = FRAME; x < width + FRAME; x++) row[x] |= from[x];
         }
+    }
+}
+
+static void open_image(const mask_table *table, int width, int height, int stride) {
+    memset(opened + FRAME * stride, 0, (size_t)stride * height);
+    for (size_t r = 0; r < table->ranks; r++) {
+        steps persistent = steps_of(table->persistents[r], stride);
+        open_for(&persistent, width, height, stride);
     }
 }
 
@@ -86,9 +95,9 @@ void tuned_pass(const mask_table *table, size_t width, size_t height, const uint
     int stride = width + 2 * FRAME;
     uint32_t all = 0, common = UINT32_MAX;
     for (size_t e = 0; e < table->count; e++) all |= table->elements[e], common &= table->elements[e];
-    steps used = steps_of(all, stride), shared = steps_of(common, stride), persistent = steps_of(table->persistent, stride);
+    steps used = steps_of(all, stride), shared = steps_of(common, stride);
     fill_codes(width, height, stride, image);
-    open_image(&persistent, width, height, stride);
+    open_image(table, width, height, stride);
     repeat_edge(width, height, stride);
     size_t changed[2] = {0, 0};
     memcpy(next, image, width * height);

@@ -31,9 +31,10 @@ extern "C" {
 /* ---- limits */
 
 #define MASK_MAX_ELEMENTS 64
+#define MASK_MAX_RANKS 4          /* persistent elements of a table */
 #define MASK_MAX_SIDE 256
 #define MASK_MAX_PIXELS 65536     /* bytes of the largest work area */
-#define MASK_MAX_TABLE_FILE 261   /* bytes of the longest table file */
+#define MASK_MAX_TABLE_FILE 275   /* bytes of the longest table file */
 #define MASK_MAX_IMAGE_FILE 8203  /* bytes of the longest image file */
 
 /* ---- refusals: the number, and its place where that is not 0 */
@@ -44,9 +45,9 @@ extern "C" {
 #define MASK_ELEMENT_COUNT 3      /* the count of elements is not 1 to 64 */
 #define MASK_ELEMENT_RANGE 4      /* an element is 0, above 33554431, with bit 12, or not above the one before, or, in a record, nonzero past the count; the lowest such */
 #define MASK_ELEMENTS_DISJOINT 5  /* an element shares no position with an earlier one; the lowest such */
-#define MASK_PERSISTENT_RANGE 6   /* the persistent element is 0 or above 33554431; count + 1 */
-#define MASK_NOT_PERSISTENT 7     /* the persistent element is not persistent; the lowest element that misses */
-#define MASK_BYTES_LEFT 8         /* table file: bytes after the persistent element; count + 2 */
+#define MASK_PERSISTENT_RANGE 6   /* a persistent element is 0, above 33554431, or not above the one before, or, in a record, nonzero past the ranks; the lowest such */
+#define MASK_NOT_PERSISTENT 7     /* a persistent element is not persistent; the lowest element that one of them misses */
+#define MASK_BYTES_LEFT 8         /* table file: bytes after the last persistent element; one more than its place */
 #define MASK_HEADER_FORM 9        /* image file: the header is not `P4`, line feed, width, space, height, line feed */
 #define MASK_SIZE_RANGE 10        /* width or height is not 1 to 256 */
 #define MASK_RASTER_LENGTH 11     /* image file: not as many bytes as its rows need; pixels: not width x height bytes */
@@ -56,17 +57,22 @@ extern "C" {
 #define MASK_NOT_COLLECTED 15     /* load: the job already holds an image */
 #define MASK_NOTHING_LOADED 16    /* the job holds no image */
 #define MASK_NOT_STABLE 17        /* collect: a pass may still change the image */
+#define MASK_RANK_COUNT 18        /* the number of persistent elements is not 1 to 4 in a record, or not 2 to 4 in a table file that starts with 0; count + 1 */
 
-/* The place of a table's parts: 0 the count, i the i-th element (from 1), count + 1 the persistent element. */
+/* The place of a table's parts: 0 the count, and the 0 before it in a file; i the i-th element (from 1). The only persistent
+   element of a table is at count + 1. Where there are two to four, their number is at count + 1, and the one of rank r (from
+   1) at count + 1 + r; so are a record's places past its ranks. */
 
 /* ---- records */
 
-/* The structuring elements and the persistent element, as masks: bit 5 * (dy + 2) + (dx + 2) stands for the offset
-   (dx, dy), each from -2 to 2. Element places past the count are 0. */
+/* The structuring elements and the persistent elements, as masks: bit 5 * (dy + 2) + (dx + 2) stands for the offset
+   (dx, dy), each from -2 to 2. Both rise. Places past `count` and past `ranks` are 0. A pixel is opened where a translate of
+   any persistent element opens it. */
 typedef struct {
     size_t count;
     uint32_t elements[MASK_MAX_ELEMENTS];
-    uint32_t persistent;
+    size_t ranks; /* the number of persistent elements; a rank is the number of one of them, from 1 */
+    uint32_t persistents[MASK_MAX_RANKS];
 } mask_table;
 
 #define MASK_STAGE_EMPTY 0
@@ -133,14 +139,16 @@ typedef struct {
 
 /* ---- tables */
 
-/* Judges a table record. Refused by 3, 4, 6, 5, 7, in this order. */
+/* Judges a table record. Refused by 3, 4, 18, 6, 5, 7, in this order. */
 mask_checked mask_table_check(mask_table table);
 
-/* Reads a table file. Refused, number by number, by 1, 2, and then by 3 (the count), 4 (an element) or 6 (the
-   persistent element); after the numbers by 8, 5, 7. The table of a refused answer is all 0. */
+/* Reads a table file. Its numbers are the count, the elements and the persistent element; where there are two to four of
+   these, 0, the count, the elements, the ranks and the persistent elements. Refused, number by number, by 1, 2, and then by 3
+   (the count), 4 (an element), 18 (the ranks) or 6 (a persistent element); after the numbers by 8, 5, 7. The table of a
+   refused answer is all 0. */
 mask_table_answer mask_table_read(const uint8_t *file, size_t file_length);
 
-/* Writes the file of a table to the front of `out`; bytes past it stay. Refused by 3, 4, 6, 5, 7, then 13. */
+/* Writes the file of a table to the front of `out`; bytes past it stay. Refused by 3, 4, 18, 6, 5, 7, then 13. */
 mask_file_length mask_table_write(mask_table table, uint8_t *out, size_t out_length);
 
 /* ---- images: raw PBM in one strict form in files; in memory one byte for each pixel, in row order */

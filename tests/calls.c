@@ -7,6 +7,7 @@
 
 #define RING 469440u
 #define RING_PERSISTENT 405504u
+#define CROSS 141440u
 #define FILL 0xA5
 
 static int failures = 0;
@@ -23,6 +24,7 @@ static int failures = 0;
 #define ACCEPTED(answer) REFUSED(answer, 0, 0)
 
 static const uint8_t ring_file[] = {0x01, 0xC0, 0xD3, 0x1C, 0x80, 0xE0, 0x18};
+static const uint8_t cobbles_file[] = {0x00, 0x01, 0x80, 0xD1, 0x08, 0x02, 0x80, 0x60, 0x80, 0xA0, 0x08};
 static const uint8_t dot_file[] = {'P', '4', '\n', '5', ' ', '5', '\n', 0x00, 0x00, 0x20, 0x00, 0x00};
 static const uint8_t blank_file[] = {'P', '4', '\n', '5', ' ', '5', '\n', 0x00, 0x00, 0x00, 0x00, 0x00};
 
@@ -30,7 +32,19 @@ static mask_table ring(void) {
     mask_table t = {0};
     t.count = 1;
     t.elements[0] = RING;
-    t.persistent = RING_PERSISTENT;
+    t.ranks = 1;
+    t.persistents[0] = RING_PERSISTENT;
+    return t;
+}
+
+/* The cross with its first persistent elements, one to four. */
+static mask_table cross(size_t ranks) {
+    static const uint32_t persistents[MASK_MAX_RANKS] = {12288, 135168, 143360, 405504};
+    mask_table t = {0};
+    t.count = 1;
+    t.elements[0] = CROSS;
+    t.ranks = ranks;
+    memcpy(t.persistents, persistents, ranks * sizeof *persistents);
     return t;
 }
 
@@ -57,7 +71,8 @@ static int all(const uint8_t *bytes, size_t length, uint8_t value) {
 }
 
 static int same_table(mask_table a, mask_table b) {
-    return a.count == b.count && a.persistent == b.persistent && memcmp(a.elements, b.elements, sizeof a.elements) == 0;
+    return a.count == b.count && memcmp(a.elements, b.elements, sizeof a.elements) == 0 && a.ranks == b.ranks
+        && memcmp(a.persistents, b.persistents, sizeof a.persistents) == 0;
 }
 
 static int same_job(mask_job a, mask_job b) {
@@ -67,15 +82,16 @@ static int same_job(mask_job a, mask_job b) {
 
 static void layout(void) {
     EXPECT(sizeof(size_t) == 8);
-    EXPECT(sizeof(mask_table) == 272 && offsetof(mask_table, elements) == 8 && offsetof(mask_table, persistent) == 264);
-    EXPECT(sizeof(mask_job) == 320 && offsetof(mask_job, width) == 8 && offsetof(mask_job, removed) == 40);
+    EXPECT(sizeof(mask_table) == 288 && offsetof(mask_table, count) == 0 && offsetof(mask_table, elements) == 8);
+    EXPECT(offsetof(mask_table, ranks) == 264 && offsetof(mask_table, persistents) == 272);
+    EXPECT(sizeof(mask_job) == 336 && offsetof(mask_job, width) == 8 && offsetof(mask_job, removed) == 40);
     EXPECT(offsetof(mask_job, table) == 48);
-    EXPECT(sizeof(mask_checked) == 16 && sizeof(mask_table_answer) == 288 && sizeof(mask_image_size) == 32);
+    EXPECT(sizeof(mask_checked) == 16 && sizeof(mask_table_answer) == 304 && sizeof(mask_image_size) == 32);
     EXPECT(sizeof(mask_file_length) == 24 && sizeof(mask_progress) == 24 && sizeof(mask_part) == 32);
     EXPECT(sizeof(mask_figures_answer) == 32);
 }
 
-/* Each place of the array is seen by value. */
+/* Each place of the elements is seen by value. */
 static void table_check(void) {
     EXPECT(ACCEPTED(mask_table_check(ring())));
     for (size_t k = 1; k < MASK_MAX_ELEMENTS; k++) {
@@ -87,15 +103,34 @@ static void table_check(void) {
     t.count = 65;
     EXPECT(REFUSED(mask_table_check(t), MASK_ELEMENT_COUNT, 0));
     t = ring();
-    t.persistent = 0;
-    EXPECT(REFUSED(mask_table_check(t), MASK_PERSISTENT_RANGE, 2));
-    t.persistent = 4096;
+    t.persistents[0] = 4096;
     EXPECT(REFUSED(mask_table_check(t), MASK_NOT_PERSISTENT, 1));
     t = ring();
     t.count = 2;
     t.elements[0] = 2048;
     t.elements[1] = 8192;
     EXPECT(REFUSED(mask_table_check(t), MASK_ELEMENTS_DISJOINT, 2));
+}
+
+/* The ranks, and each place of the persistent elements, are seen by value. */
+static void persistents_check(void) {
+    for (size_t ranks = 1; ranks <= MASK_MAX_RANKS; ranks++) {
+        EXPECT(ACCEPTED(mask_table_check(cross(ranks))));
+        for (size_t i = 0; i < MASK_MAX_RANKS; i++) {
+            mask_table t = cross(ranks);
+            t.persistents[i] = i < ranks ? 0 : 33554431;
+            EXPECT(REFUSED(mask_table_check(t), MASK_PERSISTENT_RANGE, ranks == 1 && i == 0 ? 2 : 3 + i));
+        }
+    }
+    mask_table t = cross(2);
+    t.persistents[1] = t.persistents[0];
+    EXPECT(REFUSED(mask_table_check(t), MASK_PERSISTENT_RANGE, 4));
+    t.persistents[1] = 266240; /* positions 12 and 18 */
+    EXPECT(REFUSED(mask_table_check(t), MASK_NOT_PERSISTENT, 1));
+    t.ranks = 0;
+    EXPECT(REFUSED(mask_table_check(t), MASK_RANK_COUNT, 2));
+    t.ranks = MASK_MAX_RANKS + 1;
+    EXPECT(REFUSED(mask_table_check(t), MASK_RANK_COUNT, 2));
 }
 
 static void table_files(void) {
@@ -106,6 +141,10 @@ static void table_files(void) {
     EXPECT(REFUSED(r, MASK_NUMBER_ENDS, 0) && same_table(r.table, zero));
     r = mask_table_read(ring_file, sizeof ring_file - 1);
     EXPECT(REFUSED(r, MASK_NUMBER_ENDS, 2) && same_table(r.table, zero));
+    r = mask_table_read(cobbles_file, sizeof cobbles_file);
+    EXPECT(ACCEPTED(r) && same_table(r.table, cross(2)));
+    r = mask_table_read(cobbles_file, sizeof cobbles_file - 1);
+    EXPECT(REFUSED(r, MASK_NUMBER_ENDS, 4) && same_table(r.table, zero));
 
     uint8_t out[16];
     memset(out, FILL, sizeof out);
@@ -116,6 +155,12 @@ static void table_files(void) {
     w = mask_table_write(ring(), out, sizeof out);
     EXPECT(ACCEPTED(w) && w.length == sizeof ring_file && memcmp(out, ring_file, sizeof ring_file) == 0);
     EXPECT(all(out + sizeof ring_file, sizeof out - sizeof ring_file, FILL));
+    memset(out, FILL, sizeof out);
+    w = mask_table_write(cross(2), out, 10);
+    EXPECT(REFUSED(w, MASK_AREA_SHORT, 0) && w.length == 0 && all(out, sizeof out, FILL));
+    w = mask_table_write(cross(2), out, sizeof out);
+    EXPECT(ACCEPTED(w) && w.length == sizeof cobbles_file && memcmp(out, cobbles_file, sizeof cobbles_file) == 0);
+    EXPECT(all(out + sizeof cobbles_file, sizeof out - sizeof cobbles_file, FILL));
 }
 
 static void image_files(void) {
@@ -183,7 +228,7 @@ static void fields(void) {
     uint8_t first[32] = {0};
     uint8_t second[32] = {0};
     mask_job j = {0};
-    for (int field = 0; field < 8 + MASK_MAX_ELEMENTS; field++) {
+    for (int field = 0; field < 8 + MASK_MAX_RANKS + MASK_MAX_ELEMENTS; field++) {
         memset(&j, 0, sizeof j);
         switch (field) {
         case 0: j.stage = 3; break;
@@ -193,8 +238,13 @@ static void fields(void) {
         case 4: j.added = 1; break;
         case 5: j.removed = 1; break;
         case 6: j.table.count = 1; break;
-        case 7: j.table.persistent = 1; break;
-        default: j.table.elements[field - 8] = 1; break;
+        case 7: j.table.ranks = 1; break;
+        default:
+            if (field < 8 + MASK_MAX_RANKS) {
+                j.table.persistents[field - 8] = 1;
+            } else {
+                j.table.elements[field - 8 - MASK_MAX_RANKS] = 1;
+            }
         }
         mask_job before = j;
         EXPECT(REFUSED(mask_view(j, first, 32, second, 32), MASK_UNSOUND, 0));
@@ -227,6 +277,11 @@ static void empty(void) {
     mask_table bad = ring();
     bad.elements[5] = 1;
     EXPECT(REFUSED(mask_load(&j, bad, dot_file, sizeof dot_file, first, 32, second, 32), MASK_ELEMENT_RANGE, 6));
+    bad = cross(3);
+    bad.persistents[3] = 1;
+    EXPECT(REFUSED(mask_load(&j, bad, dot_file, sizeof dot_file, first, 32, second, 32), MASK_PERSISTENT_RANGE, 6));
+    bad.ranks = 5;
+    EXPECT(REFUSED(mask_load(&j, bad, dot_file, sizeof dot_file, first, 32, second, 32), MASK_RANK_COUNT, 2));
     EXPECT(REFUSED(mask_load(&j, ring(), dot_file, 11, first, 32, second, 32), MASK_RASTER_LENGTH, 0));
     EXPECT(REFUSED(mask_load(&j, ring(), dot_file, 12, first, 24, second, 32), MASK_AREA_SHORT, 0));
     EXPECT(REFUSED(mask_load(&j, ring(), dot_file, 12, first, 32, second, 24), MASK_AREA_SHORT, 0));
@@ -256,7 +311,17 @@ static void by_value(void) {
     EXPECT(REFUSED(f, MASK_UNSOUND, 0) && f.balance == 0 && f.cover == 0);
     first[7] = 2;
     EXPECT(REFUSED(mask_view(j, first, 15, second, 16), MASK_UNSOUND, 0));
+    first[7] = 1;
     j.table.elements[63] = 1;
+    EXPECT(REFUSED(mask_view(j, first, 15, second, 16), MASK_UNSOUND, 0));
+    for (size_t i = 0; i < MASK_MAX_RANKS; i++) {
+        j.table = cross(MASK_MAX_RANKS);
+        EXPECT(ACCEPTED(mask_view(j, first, 15, second, 16)));
+        j.table.persistents[i] = 0;
+        EXPECT(REFUSED(mask_view(j, first, 15, second, 16), MASK_UNSOUND, 0));
+    }
+    j.table = cross(2);
+    j.table.ranks = 1;
     EXPECT(REFUSED(mask_view(j, first, 15, second, 16), MASK_UNSOUND, 0));
 }
 
@@ -351,6 +416,7 @@ static void pass_clause(void) {
 int main(void) {
     layout();
     table_check();
+    persistents_check();
     table_files();
     image_files();
     preview();

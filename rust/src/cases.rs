@@ -1,6 +1,6 @@
-//! Tables and images for tests and benchmark: 01's tables, random accepted ones, and kinds of images.
+//! Tables and images for tests and benchmark: the tables of 01 and 02, random accepted ones, and kinds of images.
 
-use crate::record::TableRecord;
+use crate::record::{TableRecord, MAX_RANKS};
 use crate::reference::image::Image;
 use crate::reference::pass::median_elements;
 use crate::reference::table::{offsets, Offset};
@@ -51,32 +51,54 @@ impl Random {
 
 /// 01's ring: the eight neighbours, kept by 2 × 2.
 pub fn ring() -> TableRecord {
-    TableRecord::new(&[469_440], 405_504)
+    TableRecord::new(&[469_440], &[405_504])
 }
 
 /// 01's cross: the four neighbours, kept by two side by side.
 pub fn cross() -> TableRecord {
-    TableRecord::new(&[141_440], 12_288)
+    TableRecord::new(&[141_440], &[12_288])
+}
+
+/// 02's table for cobbles (T-01): the cross, kept by two side by side and by two one above the other.
+pub fn cobbles() -> TableRecord {
+    TableRecord::new(&[141_440], &[12_288, 135_168])
 }
 
 /// 01's median: the 56 five-point subsets, kept by 4 × 4 without corners.
 pub fn median() -> TableRecord {
-    TableRecord::new(&median_elements(), 13_597_056)
+    TableRecord::new(&median_elements(), &[13_597_056])
 }
 
-pub fn named_tables() -> [(&'static str, TableRecord); 3] {
-    [("ring", ring()), ("cross", cross()), ("median", median())]
+pub fn named_tables() -> [(&'static str, TableRecord); 4] {
+    [
+        ("ring", ring()),
+        ("cross", cross()),
+        ("median", median()),
+        ("cobbles", cobbles()),
+    ]
 }
 
-/// A random table that the rules accept, of at most so many elements.
+/// A random table that the rules accept, of at most so many elements, with one to four persistent elements.
 pub fn random_table(random: &mut Random, most: usize) -> TableRecord {
-    loop {
-        let persistent = random_persistent(random);
-        let elements = random_elements(random, persistent, most);
-        if !elements.is_empty() {
-            return TableRecord::new(&elements, persistent);
+    let persistents = random_persistents(random);
+    let elements = random_elements(random, &persistents, most);
+    TableRecord::new(&elements, &persistents)
+}
+
+/// One to four masks, rising, each of which is persistent for some element.
+fn random_persistents(random: &mut Random) -> Vec<u32> {
+    let ranks = 1 + random.below(MAX_RANKS);
+    let mut masks = Vec::new();
+    while masks.len() < ranks {
+        let mask = random_persistent(random);
+        let partners = partners(mask);
+        let possible = !partners.is_empty() && !partners.contains(&0);
+        if possible && !masks.contains(&mask) {
+            masks.push(mask);
         }
     }
+    masks.sort_unstable();
+    masks
 }
 
 /// A mask of some points of a random box.
@@ -95,12 +117,9 @@ fn random_persistent(random: &mut Random) -> u32 {
     mask
 }
 
-/// Elements, rising, each two sharing a position, for which the mask is persistent; none if it cannot be.
-fn random_elements(random: &mut Random, persistent: u32, most: usize) -> Vec<u32> {
-    let partners = partners(persistent);
-    if partners.is_empty() || partners.contains(&Vec::new()) {
-        return Vec::new();
-    }
+/// At least one element, rising, each two sharing a position, for which all the masks are persistent.
+fn random_elements(random: &mut Random, persistents: &[u32], most: usize) -> Vec<u32> {
+    let partners: Vec<u32> = persistents.iter().flat_map(|k| partners(*k)).collect();
     let wanted = 1 + random.below(most);
     let more = *random.choose(&[0, 0, 10, 30]);
     let common = if random.percent(50) {
@@ -110,8 +129,10 @@ fn random_elements(random: &mut Random, persistent: u32, most: usize) -> Vec<u32
     };
     let mut elements: Vec<u32> = Vec::new();
     for _ in 0..6 * wanted {
-        let least = partners.iter().fold(0, |e, p| e | *random.choose(p));
-        let element = least | common | random_points(random, more);
+        let element = common | random_points(random, more);
+        let element = partners
+            .iter()
+            .fold(element, |e, p| with_one_of(random, e, *p));
         let shares = elements.iter().all(|e| e & element != 0);
         if shares && !elements.contains(&element) && elements.len() < wanted {
             elements.push(element);
@@ -121,15 +142,24 @@ fn random_elements(random: &mut Random, persistent: u32, most: usize) -> Vec<u32
     elements
 }
 
-/// For each offset b of the mask, the positions a (as masks, the centre left out) with b + a in it.
-/// An element with one from each list makes the mask persistent.
-fn partners(persistent: u32) -> Vec<Vec<u32>> {
+/// For each offset b of the mask, the positions a (the centre left out) with b + a in it, as a mask.
+/// The mask is persistent for an element that shares a position with each of these.
+fn partners(persistent: u32) -> Vec<u32> {
     let stays = |b: Offset, a: Offset| b.plus(a).is_some_and(|sum| sum.is_in(persistent));
     let of = |b: Offset| {
         let partners = Offset::all().filter(|a| (a.dx, a.dy) != (0, 0) && stays(b, *a));
-        partners.map(|a| 1 << a.position()).collect()
+        partners.map(|a| 1 << a.position()).sum()
     };
     offsets(persistent).into_iter().map(of).collect()
+}
+
+/// The element, with one more position where it has none of the partners.
+fn with_one_of(random: &mut Random, element: u32, partners: u32) -> u32 {
+    if element & partners != 0 {
+        return element;
+    }
+    let positions: Vec<u32> = (0..25).filter(|i| partners >> i & 1 == 1).collect();
+    element | 1 << random.choose(&positions)
 }
 
 /// One position that is not the centre, as a mask.

@@ -16,7 +16,7 @@ pub struct Filter {
     elements: Vec<Vec<Offset>>,
     /// The elements as differences of indices, for pixels at least two away from the edge.
     steps: Vec<Vec<isize>>,
-    persistent: Vec<Offset>,
+    persistents: Vec<Vec<Offset>>,
     opened: Vec<u8>,
 }
 
@@ -26,10 +26,7 @@ const NOT_OPENED: u8 = 0;
 impl Filter {
     /// For an accepted table and a size from 1 × 1 to 256 × 256.
     pub fn new(table: &TableRecord, width: usize, height: usize) -> Filter {
-        let elements: Vec<_> = table.elements[..table.count]
-            .iter()
-            .map(|e| pairs(*e))
-            .collect();
+        let elements = lists(&table.elements[..table.count]);
         let step = |&(dx, dy): &Offset| dy as isize * width as isize + dx as isize;
         Filter {
             width,
@@ -39,7 +36,7 @@ impl Filter {
                 .map(|e| e.iter().map(step).collect())
                 .collect(),
             elements,
-            persistent: pairs(table.persistent),
+            persistents: lists(&table.persistents[..table.ranks]),
             opened: vec![NOT_OPENED; width * height],
         }
     }
@@ -75,22 +72,12 @@ impl Filter {
         }
     }
 
-    /// Fills the opening map: each translate that lies wholly inside is judged once and spread.
+    /// Fills the opening map, by each persistent element in turn.
     fn open(&mut self, image: &[u8]) {
         self.opened.fill(NOT_OPENED);
-        let (width, height) = (self.width as i32, self.height as i32);
-        let (left, right) = range(self.persistent.iter().map(|o| o.0));
-        let (top, bottom) = range(self.persistent.iter().map(|o| o.1));
-        for y in -top..height - bottom {
-            for x in -left..width - right {
-                let at = |&(dx, dy): &Offset| ((y + dy) * width + x + dx) as usize;
-                let value = image[at(&self.persistent[0])];
-                if self.persistent.iter().all(|o| image[at(o)] == value) {
-                    for o in &self.persistent {
-                        self.opened[at(o)] = value + 1;
-                    }
-                }
-            }
+        let size = (self.width as i32, self.height as i32);
+        for persistent in &self.persistents {
+            open_for(persistent, image, size, &mut self.opened);
         }
     }
 
@@ -115,11 +102,30 @@ impl Filter {
     }
 }
 
-fn pairs(mask: u32) -> Vec<Offset> {
-    offsets(mask)
-        .iter()
-        .map(|o| (o.dx as i32, o.dy as i32))
-        .collect()
+/// Each translate that lies wholly inside is judged once and spread.
+fn open_for(persistent: &[Offset], image: &[u8], (width, height): (i32, i32), opened: &mut [u8]) {
+    let (left, right) = range(persistent.iter().map(|o| o.0));
+    let (top, bottom) = range(persistent.iter().map(|o| o.1));
+    for y in -top..height - bottom {
+        for x in -left..width - right {
+            let at = |&(dx, dy): &Offset| ((y + dy) * width + x + dx) as usize;
+            let value = image[at(&persistent[0])];
+            if persistent.iter().all(|o| image[at(o)] == value) {
+                for o in persistent {
+                    opened[at(o)] = value + 1;
+                }
+            }
+        }
+    }
+}
+
+/// The masks as lists of offsets.
+fn lists(masks: &[u32]) -> Vec<Vec<Offset>> {
+    let pairs = |mask: &u32| {
+        let offsets = offsets(*mask).into_iter();
+        offsets.map(|o| (o.dx as i32, o.dy as i32)).collect()
+    };
+    masks.iter().map(pairs).collect()
 }
 
 /// The least and the greatest of some numbers.

@@ -4,6 +4,7 @@
 //! tests (2 MB) have it; a thread made with a smaller stack may not.
 
 use crate::record::{JobRecord, TableRecord};
+use std::mem::size_of;
 
 #[repr(C)]
 pub struct Verdict {
@@ -57,6 +58,11 @@ pub struct Figures {
     pub balance: i64,
     pub cover: usize,
 }
+
+// The sizes of the header's records.
+const _: () = assert!(size_of::<TableRecord>() == 288);
+const _: () = assert!(size_of::<JobRecord>() == 336);
+const _: () = assert!(size_of::<TableRead>() == 304);
 
 extern "C" {
     pub fn mask_table_check(table: TableRecord) -> Verdict;

@@ -1,10 +1,11 @@
 //! For everyday use: a table that was accepted, and a job with its own record and areas.
 
 use crate::library;
-use crate::record::{Figures, JobRecord, Progress, Refusal, TableRecord, MAX_SIDE};
+use crate::record::{Figures, JobRecord, Progress, Refusal, TableRecord};
+use crate::record::{MAX_RANKS, MAX_SIDE, PLACES};
 
-/// The longest table file: 64 elements and the persistent element of four bytes each, and the count.
-const MAX_TABLE_FILE: usize = 1 + 4 * 65;
+/// The longest table file: the leading 0, both counts, and all elements and persistent elements of four bytes each.
+const MAX_TABLE_FILE: usize = 3 + 4 * (PLACES + MAX_RANKS);
 
 /// The longest image file: the header `P4`, `256 256`, and 256 rows of 32 bytes.
 const MAX_IMAGE_FILE: usize = 11 + 32 * MAX_SIDE;

@@ -5,6 +5,9 @@ use std::fmt;
 /// The places for elements in a table record.
 pub const PLACES: usize = 64;
 
+/// The places for persistent elements in a table record.
+pub const MAX_RANKS: usize = 4;
+
 /// The largest width and the largest height of an image.
 pub const MAX_SIDE: usize = 256;
 
@@ -15,25 +18,29 @@ pub struct TableRecord {
     pub count: usize,
     /// Zero past the count.
     pub elements: [u32; PLACES],
-    /// 01's keeper.
-    pub persistent: u32,
+    /// The number of persistent elements; a rank is the number of one of them, from 1.
+    pub ranks: usize,
+    /// 01's keepers. Zero past the ranks.
+    pub persistents: [u32; MAX_RANKS],
 }
 
 impl TableRecord {
     pub const EMPTY: TableRecord = TableRecord {
         count: 0,
         elements: [0; PLACES],
-        persistent: 0,
+        ranks: 0,
+        persistents: [0; MAX_RANKS],
     };
 
-    /// A record of at most 64 elements. Nothing is checked.
-    pub fn new(elements: &[u32], persistent: u32) -> TableRecord {
+    /// A record of at most 64 elements and at most four persistent elements. Nothing is checked.
+    pub fn new(elements: &[u32], persistents: &[u32]) -> TableRecord {
         let mut record = TableRecord {
             count: elements.len(),
-            persistent,
+            ranks: persistents.len(),
             ..TableRecord::EMPTY
         };
         record.elements[..elements.len()].copy_from_slice(elements);
+        record.persistents[..persistents.len()].copy_from_slice(persistents);
         record
     }
 }
@@ -105,10 +112,11 @@ pub enum Reason {
     NotCollected = 15,
     Empty = 16,
     NotStable = 17,
+    RankCount = 18,
 }
 
 impl Reason {
-    pub const ALL: [Reason; 17] = [
+    pub const ALL: [Reason; 18] = [
         Reason::BytesEnd,
         Reason::Groups,
         Reason::Count,
@@ -126,6 +134,7 @@ impl Reason {
         Reason::NotCollected,
         Reason::Empty,
         Reason::NotStable,
+        Reason::RankCount,
     ];
 
     pub fn number(self) -> u32 {
@@ -143,8 +152,8 @@ impl Reason {
             Reason::Count => "the number of elements is not 1 to 64",
             Reason::Element => "an element is out of range or out of order",
             Reason::Disjoint => "an element shares no position with an earlier one",
-            Reason::Persistent => "the persistent element is out of range",
-            Reason::NotPersistent => "the persistent element is not persistent for an element",
+            Reason::Persistent => "a persistent element is out of range or out of order",
+            Reason::NotPersistent => "a persistent element is not persistent for an element",
             Reason::BytesAfter => "bytes follow the table",
             Reason::Header => "the image header does not have the strict form",
             Reason::Size => "width or height is not 1 to 256",
@@ -155,6 +164,9 @@ impl Reason {
             Reason::NotCollected => "the last image is not yet collected",
             Reason::Empty => "no image is loaded",
             Reason::NotStable => "the image is not yet stable",
+            Reason::RankCount => {
+                "the number of persistent elements is not 1 to 4, or not 2 to 4 in the file form of several"
+            }
         }
     }
 }

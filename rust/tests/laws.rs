@@ -65,9 +65,10 @@ fn assert_laws([job, exchanged, more]: &[Job; 3]) {
 #[test]
 fn exchange_and_order() {
     let mut random = Random::new(70);
-    let (mut cases, mut compared) = (0, 0);
+    let (mut cases, mut several, mut compared) = (0, 0, 0);
     for _ in 0..3000 {
         let mut jobs = three_jobs(&mut random);
+        several += usize::from(jobs[0].record().table.ranks > 1);
         assert_laws(&jobs);
         for _ in 0..random.below(12) {
             for job in &mut jobs {
@@ -89,8 +90,9 @@ fn exchange_and_order() {
         cases += 1;
     }
     report(&format!(
-        "exchange and order: {cases} triples of jobs, compared after {compared} passes and at rest"
+        "exchange and order: {cases} triples of jobs, {several} with several persistent elements, compared after {compared} passes and at rest"
     ));
+    assert!(several > cases / 3);
 }
 
 #[test]

@@ -3,13 +3,16 @@
 mod common;
 
 use common::{report, State};
-use mask_cleaner::cases::{cross, median, named_tables, random_figure, random_image, ring};
+use mask_cleaner::cases::{
+    cobbles, cross, median, named_tables, random_figure, random_image, ring,
+};
 use mask_cleaner::cases::{random_table, Kind, Random};
 use mask_cleaner::fast::Filter;
 use mask_cleaner::library;
 use mask_cleaner::model::{Answer, Call};
-use mask_cleaner::record::{JobRecord, Progress, TableRecord, STAGE_STABLE};
+use mask_cleaner::record::{JobRecord, Progress, TableRecord, MAX_RANKS, STAGE_STABLE};
 use mask_cleaner::reference::image::{file_of, Image};
+use mask_cleaner::reference::pass::one_pass;
 
 /// What a test ran.
 #[derive(Default)]
@@ -82,12 +85,13 @@ fn finish(state: &mut State, image: &Image, random: &mut Random) {
 }
 
 fn some_table(random: &mut Random) -> TableRecord {
-    match random.below(8) {
+    match random.below(9) {
         0 => ring(),
         1 => cross(),
         2 => median(),
-        3 => random_table(random, 1),
-        4 => random_table(random, 4),
+        3 => cobbles(),
+        4 => random_table(random, 1),
+        5 => random_table(random, 4),
         _ => random_table(random, 64),
     }
 }
@@ -203,9 +207,44 @@ fn every_image_of_a_few_pixels() {
         }
     }
     for image in every_image(5, 3) {
-        compare(&image, &cross(), 20, &mut random, &mut counts);
+        for table in [cross(), cobbles()] {
+            compare(&image, &table, 20, &mut random, &mut counts);
+        }
     }
     counts.report("every image of a few pixels");
+}
+
+/// The table without one of its persistent elements.
+fn without(table: &TableRecord, i: usize) -> TableRecord {
+    let mut persistents = table.persistents[..table.ranks].to_vec();
+    persistents.remove(i);
+    TableRecord::new(&table.elements[..table.count], &persistents)
+}
+
+/// Tables of one to four persistent elements, each of which is often needed: a pass without it gives another image.
+#[test]
+fn every_persistent_element() {
+    let mut random = Random::new(48);
+    let mut counts = Counts::default();
+    let mut needed = [[0; MAX_RANKS]; MAX_RANKS];
+    for _ in 0..4000 {
+        let table = random_table(&mut random, 16);
+        let (width, height) = (1 + random.below(20), 1 + random.below(20));
+        let image = random_image(width, height, &mut random);
+        compare(&image, &table, 400, &mut random, &mut counts);
+        let next = one_pass(&image, &table);
+        let needed = &mut needed[table.ranks - 1][..table.ranks];
+        for (i, times) in needed.iter_mut().enumerate() {
+            *times += usize::from(one_pass(&image, &without(&table, i)) != next);
+        }
+    }
+    counts.report("tables of one to four persistent elements");
+    report(&format!(
+        "  each was needed, of one, two, three, four: {needed:?}"
+    ));
+    for (i, times) in needed.iter().enumerate() {
+        assert!(times[..=i].iter().all(|n| *n >= 20), "{times:?}");
+    }
 }
 
 /// A run of the library beside passes by the quick version.

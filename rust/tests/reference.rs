@@ -1,11 +1,12 @@
-//! The reference by itself: 01's trials over it, and the quick pass beside the one by definition.
+//! The reference by itself: the trials of 01 and 02 (T-01) over it, and the quick pass beside the one by definition.
 
 mod common;
 
 use common::report;
-use mask_cleaner::cases::{cross, median, random_image, random_table, ring, Kind, Random};
+use mask_cleaner::cases::{cobbles, cross, median, random_image, random_table, ring};
+use mask_cleaner::cases::{Kind, Random};
 use mask_cleaner::fast::Filter;
-use mask_cleaner::record::TableRecord;
+use mask_cleaner::record::{TableRecord, MAX_RANKS, PLACES};
 use mask_cleaner::reference::image::Image;
 use mask_cleaner::reference::pass::{changes, one_pass, plain};
 use mask_cleaner::reference::table::check;
@@ -35,6 +36,12 @@ fn trials() {
     for single in [only(1, 1, |_, _| true), only(1, 1, |_, _| false)] {
         assert_eq!(rest(&single, &ring()), (0, single.clone()));
     }
+    let middle = only(3, 3, |x, y| (x, y) == (1, 1));
+    assert_eq!(rest(&middle, &cobbles()), (1, only(3, 3, |_, _| false)));
+    for persistent in [12_288, 135_168] {
+        let alone = TableRecord::new(&[141_440], &[persistent]);
+        assert_eq!(rest(&middle, &alone), (0, middle.clone()));
+    }
     let dash = only(24, 24, |x, y| {
         (11..=12).contains(&x) && (9..=14).contains(&y)
     });
@@ -56,14 +63,17 @@ fn chessboard() {
 #[test]
 fn random_tables_are_accepted() {
     let mut random = Random::new(1);
-    let mut counts = [0; 65];
+    let mut counts = [0; PLACES + 1];
+    let mut ranks = [0; MAX_RANKS + 1];
     for _ in 0..2000 {
         let table = random_table(&mut random, 64);
         assert_eq!(check(&table), Ok(()), "{table:?}");
         counts[table.count] += 1;
+        ranks[table.ranks] += 1;
     }
     let reached = counts.iter().filter(|n| **n > 0).count();
     assert!(reached > 50, "only {reached} numbers of elements");
+    assert!(ranks[1..].iter().all(|n| *n > 200), "{ranks:?}");
     report(&format!(
         "random tables: 2000, with {reached} different numbers of elements"
     ));

@@ -2,41 +2,15 @@
 
 mod common;
 
+use common::tables::{check, read, write};
 use common::{assert_reached, Tally};
 use mask_cleaner::cases::{named_tables, random_table, Random};
 use mask_cleaner::job::Table;
-use mask_cleaner::library;
-use mask_cleaner::record::{Reason, Refusal, TableRecord, PLACES};
-use mask_cleaner::reference::table as reference;
+use mask_cleaner::record::{Reason, Refusal, TableRecord, MAX_RANKS, PLACES};
+use mask_cleaner::reference::table::{self as reference, MAX_MASK};
 
 const CENTRE: u32 = 1 << 12;
-const ABOVE: u32 = reference::MAX_MASK + 1;
-
-/// Both checks of a record.
-fn check(table: &TableRecord) -> Result<(), Refusal> {
-    let answer = library::check_table(table);
-    assert_eq!(answer, reference::check(table), "{table:?}");
-    answer
-}
-
-/// Both readers.
-fn read(file: &[u8]) -> Result<TableRecord, Refusal> {
-    let answer = library::read_table(file);
-    assert_eq!(answer, reference::read(file), "{file:02X?}");
-    answer
-}
-
-/// Both writers on outputs of the same bytes; these must agree afterwards too.
-fn write(table: &TableRecord, out: &mut [u8]) -> Result<usize, Refusal> {
-    let before = out.to_vec();
-    let mut other = out.to_vec();
-    let answer = library::write_table(table, out);
-    assert_eq!(answer, reference::write(table, &mut other), "{table:?}");
-    assert_eq!(out, other, "{table:?}");
-    let written = answer.unwrap_or(0);
-    assert_eq!(out[written..], before[written..], "{table:?}");
-    answer
-}
+const ABOVE: u32 = MAX_MASK + 1;
 
 /// An accepted table, one of 01's at times.
 fn accepted(random: &mut Random) -> TableRecord {
@@ -80,25 +54,37 @@ fn few_points(random: &mut Random) -> u32 {
     mask & !CENTRE | 1 << random.below(12)
 }
 
-/// Rising elements in range that need not share positions, with some persistent element.
-fn in_range(random: &mut Random) -> TableRecord {
-    let wanted = 1 + random.below(12);
-    let mut elements: Vec<u32> = (0..wanted).map(|_| few_points(random)).collect();
-    elements.sort_unstable();
-    elements.dedup();
-    let persistent = 1 + random.below(reference::MAX_MASK as usize) as u32;
-    TableRecord::new(&elements, persistent)
+/// One to so many masks, rising.
+fn rising(most: usize, random: &mut Random, mask: impl Fn(&mut Random) -> u32) -> Vec<u32> {
+    let wanted = 1 + random.below(most);
+    let mut masks: Vec<u32> = (0..wanted).map(|_| mask(random)).collect();
+    masks.sort_unstable();
+    masks.dedup();
+    masks
 }
 
-/// An accepted table with one element replaced by one that shares a position with all, so that 7 is likely.
+/// Masks in range and rising: elements that need not share positions, with some persistent elements.
+fn in_range(random: &mut Random) -> TableRecord {
+    let elements = rising(12, random, few_points);
+    let any = |random: &mut Random| 1 + random.below(MAX_MASK as usize) as u32;
+    let persistents = rising(MAX_RANKS, random, any);
+    TableRecord::new(&elements, &persistents)
+}
+
+/// An accepted table with a point taken from an element or a persistent element, so that 7 is likely.
 fn misses(random: &mut Random) -> TableRecord {
     let table = accepted(random);
     let mut elements = table.elements[..table.count].to_vec();
-    let i = random.below(table.count);
-    let point = 1 << random.below(25);
-    elements[i] &= !point;
-    elements.sort_unstable();
-    TableRecord::new(&elements, table.persistent)
+    let mut persistents = table.persistents[..table.ranks].to_vec();
+    let masks = if random.percent(50) {
+        &mut elements
+    } else {
+        &mut persistents
+    };
+    let i = random.below(masks.len());
+    masks[i] &= !(1 << random.below(25));
+    masks.sort_unstable();
+    TableRecord::new(&elements, &persistents)
 }
 
 /// A table with one to three fields damaged, so that several rules are broken at once.
@@ -115,19 +101,27 @@ fn damaged(random: &mut Random) -> TableRecord {
 }
 
 fn damage(table: &mut TableRecord, random: &mut Random) {
-    let any = random.below(PLACES);
-    let used = random.below(table.count.clamp(1, PLACES));
-    match random.below(10) {
+    match random.below(12) {
         0 => table.count = *random.choose(&[0, 65, 66, 255, 256, usize::MAX]),
         1 => table.count = random.below(70),
-        2 => table.elements[any] = *random.choose(&[0, 1, ABOVE, u32::MAX, CENTRE]),
-        3 => table.elements[used] |= *random.choose(&[CENTRE, ABOVE, 1 << 31]),
-        4 => table.elements[used] = table.elements[used.saturating_sub(1)],
-        5 => table.elements[any] ^= 1 << random.below(32),
-        6 => table.persistent = *random.choose(&[0, ABOVE, ABOVE | 1, u32::MAX, 1, CENTRE]),
-        7 => table.persistent ^= 1 << random.below(25),
-        8 => table.elements[used] &= !(1 << random.below(25)),
-        _ => table.elements.swap(used, any),
+        2 => table.ranks = *random.choose(&[0, 5, 6, 255, 256, usize::MAX]),
+        3 => table.ranks = random.below(7),
+        4..=7 => damage_masks(&mut table.elements, table.count, random),
+        _ => damage_masks(&mut table.persistents, table.ranks, random),
+    }
+}
+
+/// Damages one of the places, of which `count` are used.
+fn damage_masks(places: &mut [u32], count: usize, random: &mut Random) {
+    let any = random.below(places.len());
+    let used = random.below(count.clamp(1, places.len()));
+    match random.below(6) {
+        0 => places[any] = *random.choose(&[0, 1, ABOVE, ABOVE | 1, u32::MAX, CENTRE]),
+        1 => places[used] |= *random.choose(&[CENTRE, ABOVE, 1 << 31]),
+        2 => places[used] = places[used.saturating_sub(1)],
+        3 => places[any] ^= 1 << random.below(32),
+        4 => places[used] &= !(1 << random.below(25)),
+        _ => places.swap(used, any),
     }
 }
 
@@ -139,7 +133,10 @@ fn any_record(random: &mut Random) -> TableRecord {
     for i in 0..kept {
         table.elements[i] = (random.number() >> random.below(64)) as u32;
     }
-    table.persistent = random.number() as u32 >> random.below(32);
+    table.ranks = random.below(6);
+    for persistent in &mut table.persistents {
+        *persistent = random.number() as u32 >> random.below(32);
+    }
     table
 }
 
@@ -174,19 +171,34 @@ fn records() {
         Reason::Persistent,
         Reason::NotPersistent,
         Reason::Short,
+        Reason::RankCount,
     ];
     assert_reached(&tally, &reasons, &[Reason::Count, Reason::Short]);
 }
 
-/// The file of a record whose numbers need not be accepted.
+/// The file of a record whose numbers need not be accepted, at times in the form of several persistent elements.
 fn file_of(random: &mut Random) -> Vec<u8> {
     let mut table = record(random);
     table.count = table.count.min(PLACES);
-    for element in &mut table.elements {
-        *element &= (1 << 28) - 1;
+    table.ranks = table.ranks.min(MAX_RANKS);
+    for mask in table.elements.iter_mut().chain(&mut table.persistents) {
+        *mask &= (1 << 28) - 1;
     }
-    table.persistent &= (1 << 28) - 1;
-    reference::file_of(&table)
+    if random.percent(70) {
+        reference::file_of(&table)
+    } else {
+        let ranks = *random.choose(&[table.ranks as u32, 0, 1, 2, 5, 128]);
+        form_of_several(&table, ranks)
+    }
+}
+
+/// The table's numbers after a leading 0, also where there is one persistent element, with any number of these.
+fn form_of_several(table: &TableRecord, ranks: u32) -> Vec<u8> {
+    let mut numbers = vec![0, table.count as u32];
+    numbers.extend(&table.elements[..table.count]);
+    numbers.push(ranks);
+    numbers.extend(&table.persistents[..table.ranks]);
+    numbers.into_iter().flat_map(reference::groups).collect()
 }
 
 /// Puts a group of no use behind the last group that starts at or before the place.
@@ -218,7 +230,7 @@ fn damage_file(file: &mut Vec<u8>, random: &mut Random) {
         return;
     }
     let place = random.below(file.len());
-    match random.below(9) {
+    match random.below(11) {
         0 => file.truncate(place),
         1 => file.push(random.byte()),
         2 => file.extend([0, 1, 2]),
@@ -227,6 +239,8 @@ fn damage_file(file: &mut Vec<u8>, random: &mut Random) {
         5 => lengthen(file, place),
         6 => file.truncate(place + 1),
         7 => file[place..].iter_mut().take(4).for_each(|b| *b |= 0x80),
+        8 => file.insert(0, 0),
+        9 => drop(file.remove(0)),
         _ => file[place] |= 0x80,
     }
 }
@@ -262,8 +276,16 @@ fn files() {
         }
     }
     tally.report("table files");
-    let reasons = &Reason::ALL[..8];
-    assert_reached(&tally, reasons, &[Reason::Count]);
+    let reasons = [&Reason::ALL[..8], &[Reason::RankCount]].concat();
+    assert_reached(&tally, &reasons, &[Reason::Count]);
+}
+
+/// The place after a table's last number in its file.
+fn end_place(table: &TableRecord) -> usize {
+    match table.ranks {
+        1 => table.count + 2,
+        ranks => table.count + 2 + ranks,
+    }
 }
 
 #[test]
@@ -285,7 +307,7 @@ fn every_truncation_and_flip_of_some_files() {
         }
         for byte in 0..=255 {
             let answer = tally.note(read(&[&file[..], &[byte]].concat()));
-            let expected = Refusal::at(Reason::BytesAfter, table.count + 2);
+            let expected = Refusal::at(Reason::BytesAfter, end_place(&table));
             assert_eq!(answer, Err(expected));
         }
     }
@@ -303,4 +325,54 @@ fn all_files_of_up_to_two_bytes() {
         }
     }
     tally.report("table files of up to two bytes");
+}
+
+/// Every place of the persistent elements, in tables of one to four of them; what is below the ranks also in files.
+#[test]
+fn each_place_of_the_persistent_elements() {
+    let mut tally = Tally::default();
+    let masks = [6144, 12_288, 135_168, 405_504];
+    for ranks in 1..=MAX_RANKS {
+        let table = TableRecord::new(&[141_440], &masks[..ranks]);
+        tally.note(check(&table)).expect("accepted");
+        for i in 0..MAX_RANKS {
+            let before = if i == 0 { 0 } else { masks[i - 1] };
+            let used = i < ranks;
+            let bad = if used {
+                [0, before, ABOVE]
+            } else {
+                [1, masks[i], u32::MAX]
+            };
+            let place = if ranks == 1 && i == 0 { 2 } else { 3 + i };
+            let expected = Err(Refusal::at(Reason::Persistent, place));
+            for mask in bad {
+                let mut damaged = table;
+                damaged.persistents[i] = mask;
+                assert_eq!(tally.note(check(&damaged)), expected);
+                if used {
+                    let file = reference::file_of(&damaged);
+                    assert_eq!(tally.note(read(&file)).map(drop), expected);
+                }
+            }
+        }
+    }
+    tally.report("places of the persistent elements");
+}
+
+/// 64 elements and four persistent elements of four bytes each.
+#[test]
+fn longest_file() {
+    let corners = [24, 20, 4, 0].map(|position| 1 << position);
+    let all: u32 = corners.iter().sum();
+    let elements: Vec<u32> = (0..64).map(|k| all | k << 5).collect();
+    let table = TableRecord::new(&elements, &corners.map(|corner| MAX_MASK - corner));
+    let file = include_bytes!("../../tests/longest.mtb");
+    assert_eq!(file.len(), 275);
+    assert_eq!(read(file), Ok(table));
+    let short = write(&table, &mut [0; 274]);
+    assert_eq!(short, Err(Refusal::of(Reason::Short)));
+    let returned = Table::from_file(file).map(|t| t.to_file());
+    assert_eq!(returned, Ok(file.to_vec()));
+    let longer = read(&[&file[..], &[0]].concat());
+    assert_eq!(longer, Err(Refusal::at(Reason::BytesAfter, 70)));
 }

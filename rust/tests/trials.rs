@@ -1,9 +1,10 @@
-//! 01's trial images and tables, over the library.
+//! 01's trial images and tables, and those of 02 (T-01), over the library; the tables of 02 over the reference too.
 
 mod common;
 
 use common::report;
-use mask_cleaner::cases::{cross, median, ring};
+use common::tables::{check, read};
+use mask_cleaner::cases::{cobbles, cross, median, ring};
 use mask_cleaner::job::Table;
 use mask_cleaner::library;
 use mask_cleaner::record::{JobRecord, Progress, Reason, Refusal, TableRecord};
@@ -41,15 +42,133 @@ fn tables() {
     );
     let refused = |file: &[u8]| library::read_table(file).expect_err("refused");
     assert_eq!(refused(&[]), Refusal::of(Reason::BytesEnd));
-    assert_eq!(refused(&[0x00]), Refusal::of(Reason::Count));
+    assert_eq!(refused(&[0x00]), Refusal::of(Reason::BytesEnd));
+    assert_eq!(refused(&[0x00, 0x00]), Refusal::of(Reason::Count));
     assert_eq!(refused(&[0x81, 0x00]), Refusal::of(Reason::Groups));
-    let apart = TableRecord::new(&[2048, 8192], 12_288);
+    let apart = TableRecord::new(&[2048, 8192], &[12_288]);
     let disjoint = Refusal::at(Reason::Disjoint, 2);
     assert_eq!(library::check_table(&apart), Err(disjoint));
-    let single = TableRecord::new(&[469_440], 4096);
+    let single = TableRecord::new(&[469_440], &[4096]);
     let misses = Refusal::at(Reason::NotPersistent, 1);
     assert_eq!(library::check_table(&single), Err(misses));
-    report("trial tables: 7 cases");
+    report("trial tables: 8 cases");
+}
+
+/// Number and place of an answer; both 0 where it is accepted.
+fn number_and_place<T>(answer: Result<T, Refusal>) -> (u32, usize) {
+    answer.map_or_else(|r| (r.reason.number(), r.place), |_| (0, 0))
+}
+
+/// 02's cases (T-01) on files, and some beside them: the bytes, number and place.
+const FILES: [(&str, u32, usize); 26] = [
+    ("00", 1, 0),
+    ("00 00", 3, 0),
+    ("00 41", 3, 0),
+    ("00 81 00", 2, 0),
+    ("00 01", 1, 1),
+    ("00 01 C0 D3 1C", 1, 2),
+    ("00 01 C0 D3 1C 82 00", 2, 2),
+    ("00 01 C0 D3 1C 01 80 E0 18", 18, 2),
+    ("00 01 C0 D3 1C 02", 1, 3),
+    ("00 01 C0 D3 1C 02 00 80 E0 18", 6, 3),
+    ("00 01 80 D1 08 02 80 A0 08 80 60", 6, 4),
+    ("00 01 80 D1 08 02 80 60 80 A0 08 00", 8, 5),
+    ("00 02 80 10 80 40 02 80 60 80 A0 08", 5, 2),
+    ("00 01 C0 D3 1C 02 80 20 80 E0 18", 7, 1),
+    ("00 01 80 D1 08 02 80 60 80 A0 08", 0, 0),
+    ("01 C0 D3 1C 80 E0 18", 0, 0),
+    // beside them
+    ("00 80", 1, 0),
+    ("00 00 01 80 D1 08 02 80 60 80 A0 08", 3, 0),
+    ("00 01 80 20 02 80 60 80 A0 08", 4, 1),
+    ("00 01 C0 D3 1C 00", 18, 2),
+    ("00 01 C0 D3 1C 05 80", 18, 2),
+    ("00 01 C0 D3 1C 80", 1, 2),
+    ("00 01 80 D1 08 02 80 60 80 A0", 1, 4),
+    ("00 01 80 D1 08 02 80 60 80 A0 00", 2, 4),
+    ("00 01 80 D1 08 02 80 60 80 60 00", 6, 4),
+    ("01 C0 D3 1C 80 E0 18 80 A0 08", 8, 3),
+];
+
+#[test]
+fn files_of_the_request() {
+    for (bytes, number, place) in FILES {
+        let bytes = bytes.split(' ').map(|b| u8::from_str_radix(b, 16));
+        let file: Vec<u8> = bytes.collect::<Result<_, _>>().expect("bytes");
+        let answer = read(&file);
+        assert_eq!(number_and_place(answer), (number, place), "{file:02X?}");
+        if let Ok(table) = answer {
+            let returned = Table::from_record(table).map(|t| t.to_file());
+            assert_eq!(returned, Ok(file));
+        }
+    }
+    let sample = include_bytes!("../../samples/cobbles.mtb");
+    assert_eq!(read(sample), Ok(cobbles()));
+    report(&format!("table files of the request: {}", FILES.len()));
+}
+
+const RING: u32 = 469_440;
+const CROSS: u32 = 141_440;
+const WIDE: u32 = 12_288;
+const TALL: u32 = 135_168;
+const SQUARE: u32 = 405_504;
+/// Two elements that share position 24: for the level one WIDE is persistent and TALL is not, for the upright one the other way.
+const LEVEL: u32 = 16_787_456;
+const UPRIGHT: u32 = 16_908_416;
+
+/// The front places of a record: count and elements, ranks and persistent elements.
+type Front = (usize, &'static [u32], usize, &'static [u32]);
+
+/// 02's cases (T-01) on records, and some beside them: the record, number and place.
+const RECORDS: [(Front, u32, usize); 20] = [
+    ((1, &[RING], 1, &[SQUARE]), 0, 0),
+    ((1, &[RING], 0, &[SQUARE]), 18, 2),
+    ((1, &[RING], 5, &[1, 2, 3, 4]), 18, 2),
+    ((1, &[4096], 0, &[]), 4, 1),
+    ((1, &[RING, 0, 9], 0, &[]), 4, 3),
+    ((1, &[RING], 1, &[0, 7]), 6, 2),
+    ((1, &[RING], 1, &[SQUARE, 7]), 6, 4),
+    ((1, &[RING], 1, &[SQUARE, 0, 0, 7]), 6, 6),
+    ((1, &[CROSS], 2, &[0, WIDE]), 6, 3),
+    ((1, &[CROSS], 2, &[WIDE, WIDE]), 6, 4),
+    ((1, &[CROSS], 2, &[WIDE, TALL, 135_169]), 6, 5),
+    ((1, &[CROSS], 4, &[6144, WIDE, TALL, SQUARE]), 0, 0),
+    ((2, &[2048, 8192], 2, &[WIDE, WIDE]), 6, 5),
+    ((1, &[CROSS], 2, &[WIDE, 266_240]), 7, 1),
+    // beside them
+    ((0, &[RING], 0, &[SQUARE]), 3, 0),
+    ((1, &[RING], usize::MAX, &[SQUARE]), 18, 2),
+    ((1, &[CROSS], 3, &[WIDE, TALL]), 6, 5),
+    ((1, &[CROSS], 4, &[TALL, WIDE, 0, 7]), 6, 4),
+    ((2, &[LEVEL, UPRIGHT], 1, &[WIDE]), 7, 2),
+    ((2, &[LEVEL, UPRIGHT], 2, &[WIDE, TALL]), 7, 1),
+];
+
+#[test]
+fn records_of_the_request() {
+    for ((count, elements, ranks, persistents), number, place) in RECORDS {
+        let table = TableRecord {
+            count,
+            ranks,
+            ..TableRecord::new(elements, persistents)
+        };
+        let answer = number_and_place(check(&table));
+        assert_eq!(answer, (number, place), "{table:?}");
+    }
+    report(&format!("table records of the request: {}", RECORDS.len()));
+}
+
+/// 02's case (T-01): a black pixel that only both persistent elements remove.
+#[test]
+fn wide_and_tall() {
+    let speck = only(3, 3, |x, y| (x, y) == (1, 1));
+    for persistent in [WIDE, TALL] {
+        let alone = TableRecord::new(&[CROSS], &[persistent]);
+        assert_eq!(clean(alone, &speck), (0, 0, 0, file_of(&speck)));
+    }
+    let white = file_of(&only(3, 3, |_, _| false));
+    assert_eq!(clean(cobbles(), &speck), (1, 0, 1, white));
+    report("wide and tall persistent element: 3 cases");
 }
 
 #[test]

@@ -4,10 +4,11 @@
 mod common;
 
 use common::{report, State, Stock, Tally};
-use mask_cleaner::cases::{cross, random_image, random_table, ring, Kind, Random};
+use mask_cleaner::cases::{cobbles, random_image, random_table, ring, Kind, Random};
 use mask_cleaner::model::{Answer, Call};
 use mask_cleaner::record::{
-    JobRecord, Progress, Reason, Refusal, TableRecord, STAGE_LOADED, STAGE_STABLE,
+    JobRecord, Progress, Reason, Refusal, TableRecord, MAX_RANKS, PLACES, STAGE_LOADED,
+    STAGE_STABLE,
 };
 use mask_cleaner::reference::image::{file_of, Image};
 use mask_cleaner::reference::pass::{changes, one_pass};
@@ -127,10 +128,12 @@ fn damage_size(record: &mut JobRecord, random: &mut Random) {
 }
 
 fn damage_table(table: &mut TableRecord, random: &mut Random) {
-    match random.below(4) {
+    match random.below(6) {
         0 => table.count = *random.choose(&[0, 65, usize::MAX]),
-        1 => table.persistent = *random.choose(&[0, u32::MAX]),
-        2 => table.elements[0] |= 4096,
+        1 => table.ranks = *random.choose(&[0, 5, usize::MAX]),
+        2 => table.persistents[0] = 0,
+        3 => table.persistents[random.below(MAX_RANKS)] = u32::MAX,
+        4 => table.elements[0] |= 4096,
         _ => table.elements[63] = 1,
     }
 }
@@ -144,15 +147,16 @@ fn more(pixels: usize, random: &mut Random) -> usize {
 fn empty_with_field(random: &mut Random) -> JobRecord {
     let mut record = JobRecord::EMPTY;
     let value = 1 + random.below(300);
-    match random.below(8) {
+    match random.below(9) {
         0 => record.width = value,
         1 => record.height = value,
         2 => record.passes = value,
         3 => record.added = value,
         4 => record.removed = value,
         5 => record.table.count = value,
-        6 => record.table.elements[random.below(64)] = value as u32,
-        _ => record.table.persistent = value as u32,
+        6 => record.table.elements[random.below(PLACES)] = value as u32,
+        7 => record.table.ranks = value,
+        _ => record.table.persistents[random.below(MAX_RANKS)] = value as u32,
     }
     record
 }
@@ -322,7 +326,7 @@ fn alter(state: &mut State, random: &mut Random) {
         6 => std::mem::swap(&mut record.width, &mut record.height),
         7 => damage_size(record, random),
         8 => damage_table(&mut record.table, random),
-        9 => record.table = *random.choose(&[TableRecord::EMPTY, ring(), cross()]),
+        9 => record.table = *random.choose(&[TableRecord::EMPTY, ring(), cobbles()]),
         10..=12 => *record = JobRecord::EMPTY,
         _ => area
             .iter_mut()

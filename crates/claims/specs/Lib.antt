@@ -7,5 +7,6 @@ pub mod Demand2
 pub mod Demand3
 pub mod Operator
 pub mod Padding
+pub mod Ranks
 pub mod Trials
 pub mod Walk

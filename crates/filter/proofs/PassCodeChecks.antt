@@ -1,9 +1,9 @@
 -- What a pass checks before it starts.
---     ranged-of, ranged-count, ranged-valid    the table's ranges
+--     ranged-of, ranged-count, ranged-ranks, ranged-valid    the table's ranges
 --     accepted-ranged            an accepted table is in range
 --     elements-part, map-part, map-length    elements and opening map, as parts of longer arrays
 -- Assumes nothing.
-use mathlib.Core.Bool.{Bool, true}
+use mathlib.Core.Bool.{Bool, true, _&&_}
 use mathlib.Core.List.{List}
 use mathlib.Core.Path.{_≡_, ap, _∙_}
 use Prim.Native.Nat.{ℕ, _*_, _≤_}
@@ -16,30 +16,39 @@ use Rattle.seq.proofs.Lists.{and-left, and-right, and-intro, all-intro}
 use Rattle.seq.proofs.Tab.{length-tab}
 use Rattle.table.specs.declared.Table.{Table}
 use Rattle.table.specs.Mask.{validMask}
-use Rattle.table.specs.Record.{maxElements, masks, recordVerdict}
+use Rattle.table.specs.Record.{maxElements, maxRanks, masks, recordVerdict}
 use Rattle.verdict.specs.declared.Verdict.the-variants.{Accepted}
 use Rattle.verdict.specs.Writer.{over}
 use Rattle.filter.specs.Applied.{ranged}
 use Rattle.filter.specs.Code.OpeningMap.{openMap}
 use Rattle.table.proofs.Facts.{accepted-table}
 
--- the table's ranges, from its count and its element places
-pub ranged-of : (t : Table) {es : List ℕ} {b : Bool} → t .count ≤ maxElements → es ≡ t .elements → b ≡ all validMask (take (t .count) es) → b ≡ ranged t
+-- the table's ranges, from its counts and its element places
+pub ranged-of : (t : Table) {es : List ℕ} {b : Bool} → t .count ≤ maxElements → t .ranks ≤ maxRanks → es ≡ t .elements → b ≡ all validMask (take (t .count) es) → b ≡ ranged t
 unfolding ranged masks
-ranged-of t l e q = q ∙ simp (le-leb (t .count) maxElements l, e)
+ranged-of t l r e q = q ∙ simp (le-leb (t .count) maxElements l, le-leb (t .ranks) maxRanks r, e)
 
-pub ranged-count : (t : Table) → ranged t ≡ true → t .count ≤ maxElements
-unfolding ranged
-ranged-count t e = leb-true (t .count) maxElements (and-left (leb (t .count) maxElements) (all validMask (masks t)) e)
+module _ (t : Table) (e : ranged t ≡ true) where
+  counts : (leb (t .count) maxElements && leb (t .ranks) maxRanks) ≡ true
+  unfolding ranged
+  counts = and-left (leb (t .count) maxElements && leb (t .ranks) maxRanks) (all validMask (masks t)) e
 
-pub ranged-valid : (t : Table) → ranged t ≡ true → all validMask (masks t) ≡ true
-unfolding ranged
-ranged-valid t e = and-right (leb (t .count) maxElements) (all validMask (masks t)) e
+  pub ranged-count : t .count ≤ maxElements
+  ranged-count = leb-true (t .count) maxElements (and-left (leb (t .count) maxElements) (leb (t .ranks) maxRanks) counts)
+
+  pub ranged-ranks : t .ranks ≤ maxRanks
+  ranged-ranks = leb-true (t .ranks) maxRanks (and-right (leb (t .count) maxElements) (leb (t .ranks) maxRanks) counts)
+
+  pub ranged-valid : all validMask (masks t) ≡ true
+  unfolding ranged
+  ranged-valid = and-right (leb (t .count) maxElements && leb (t .ranks) maxRanks) (all validMask (masks t)) e
 
 module _ (t : Table) (ok : recordVerdict t ≡ Accepted) where
   pub accepted-ranged : ranged t ≡ true
   unfolding ranged masks
-  accepted-ranged = let facts = accepted-table t ok in and-intro (le-leb _ _ (facts .count-most)) (all-intro validMask (masks t) (facts .masks-valid))
+  accepted-ranged =
+      let facts = accepted-table t ok in
+      and-intro (and-intro (le-leb _ _ (facts .count-most)) (le-leb _ _ (facts .ranks-most))) (all-intro validMask (masks t) (facts .masks-valid))
 
 -- the elements, as a part of the element places
 pub elements-part : (t : Table) {es : List ℕ} → es ≡ t .elements → take (t .count) es ≡ masks t

@@ -4,7 +4,7 @@
 --     filtered t w h px n           the answer of `pass`; filteredArea t w h px area: the area afterwards
 --     switches t w h img r c        a pixel changes: not opened for its own value v, and held for 1 − v
 --     switchedAt t w h img r c      the pixel afterwards; switched t w h img: the image. As one pass, but a pixel opened for its own value stays
---     ranged t                      the table has a fitting count, and its elements are valid masks
+--     ranged t                      the table has fitting counts, and its elements are valid masks
 --     rangeVerdict t                only that is judged; a table that is out of range is refused by its own number
 --     againVerdict t w h px n       as `passVerdict`, but of the table only the ranges are judged
 --     again t w h px n              the answer of `again`; againArea t w h px area: the area afterwards
@@ -25,7 +25,7 @@ use Rattle.seq.specs.Lists.{all}
 use Rattle.seq.specs.Tab.{tab}
 use Rattle.table.specs.declared.Table.{Table}
 use Rattle.table.specs.Mask.{validMask}
-use Rattle.table.specs.Record.{maxElements, masks, recordVerdict}
+use Rattle.table.specs.Record.{maxElements, maxRanks, masks, recordVerdict}
 use Rattle.verdict.specs.declared.Verdict.{Verdict}
 use Rattle.verdict.specs.declared.Verdict.the-variants.{Accepted, Refused}
 use Rattle.verdict.specs.Rules.{judge}
@@ -54,7 +54,7 @@ unfoldable pub switched : Table → ℕ → ℕ → List ℕ → List ℕ
 switched t w h img = tab (λ i. switchedAt t w h img (i / w) (i % w)) (w * h)
 
 unfoldable pub ranged : Table → Bool
-ranged t = leb (t .count) maxElements && all validMask (masks t)
+ranged t = (leb (t .count) maxElements && leb (t .ranks) maxRanks) && all validMask (masks t)
 
 unfoldable pub rangeVerdict : Table → Verdict
 rangeVerdict t = cond (ranged t) Accepted (recordVerdict t)

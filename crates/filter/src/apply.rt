@@ -5,6 +5,7 @@ use crate::walk;
 use crate::walk::Changes;
 use image::size::MAX_PIXELS;
 use table::MAX_ELEMENTS;
+use table::MAX_RANKS;
 use table::Table;
 use verdict::Verdict;
 ghost use Rattle.filter.specs.Applied;
@@ -103,6 +104,9 @@ fn is_ranged(table: Table) -> bool
 {
     let count = table.count;
     if MAX_ELEMENTS < count {
+        return false;
+    }
+    if MAX_RANKS < table.ranks {
         return false;
     }
     let elements = places(table);

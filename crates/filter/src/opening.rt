@@ -16,6 +16,7 @@ ghost use Rattle.seq.specs.Bits.{bit};
 ghost use Rattle.seq.specs.Lists.{all};
 ghost use Rattle.seq.specs.Loops.{Swept};
 ghost use Rattle.table.specs.Mask.{positionCount, positions};
+ghost use Rattle.table.specs.Record.{maxRanks};
 ghost use Rattle.verdict.specs.Writer.{over};
 
 const SIDE: usize = 5;
@@ -33,7 +34,7 @@ const BOTH: u8 = 3;
 
 // For each pixel 1 where it is opened for 0, 2 where it is opened for 1, else 0; at the front of `map`.
 pub(crate) fn open(table: Table, width: usize, height: usize, pixels: &[u8], map: &mut [u8])
-    requires { ⌜ Openable width height (now pixels) (now map) ⌝ }
+    requires { ⌜ (table .ranks ≤ maxRanks) × Openable width height (now pixels) (now map) ⌝ }
     ensures { λ r. ⌜ now (map .exit) ≡ over (openMap table width height (now (pixels .entry))) (now (map .entry)) ⌝ }
 {
     let mut framed = blank();
@@ -67,16 +68,17 @@ fn open_in(
     solid: &mut [u8],
     opened: &mut [u8],
 )
-    requires { ⌜ (IsImage width height (now pixels)) × (width * height ≤ length (now map)) × (stride width * stride height ≤ length (now framed))
-        × (stride width * stride height ≤ length (now solid)) × (stride width * stride height ≤ length (now opened)) ⌝ }
+    requires { ⌜ (table .ranks ≤ maxRanks) × (IsImage width height (now pixels)) × (width * height ≤ length (now map))
+        × (stride width * stride height ≤ length (now framed)) × (stride width * stride height ≤ length (now solid)) × (stride width * stride height ≤ length (now opened)) ⌝ }
     ensures { λ r. ⌜ now (map .exit) ≡ over (openMap table width height (now (pixels .entry))) (now (map .entry)) ⌝ }
 {
     let step = width + FRAME;
     let reach = step * (height + MARGIN) - MARGIN;
     frame(width, height, pixels, framed);
     fill(opened, reach, NEITHER);
-    let persistents = [table.persistent];
-    open_each(&persistents, step, reach, framed, solid, opened);
+    let persistents = table.persistents;
+    let ranks = table.ranks;
+    open_each(&persistents[..ranks], step, reach, framed, solid, opened);
     unframe(width, height, opened, map);
 }
 

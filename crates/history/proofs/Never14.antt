@@ -27,7 +27,7 @@ use Rattle.verdict.proofs.Numbers.{one-of-if, one-of-or, one-of-more, one-of-ot
 
 -- because of the input
 abbrev pub inputNumbers : List ℕ
-inputNumbers = 3 ∷ 4 ∷ 5 ∷ 6 ∷ 7 ∷ 9 ∷ 10 ∷ 11 ∷ 13 ∷ []
+inputNumbers = 3 ∷ 4 ∷ 5 ∷ 6 ∷ 7 ∷ 9 ∷ 10 ∷ 11 ∷ 13 ∷ 18 ∷ []
 
 -- and because of the state, without 14
 abbrev callNumbers : List ℕ

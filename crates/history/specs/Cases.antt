@@ -1,11 +1,13 @@
--- A list of calls whose every step is computed, with what 01 says of it; and covers, with what 02 (T-05) says of them.
+-- A list of calls whose every step is computed, with what 01 says of it; and covers and empty records, with what 02 (T-05, T-01) says of them.
 --     row c w       after the call c: refusal number, stage, passes, added, removed, black in view, cover, history (0 empty, 1 held, 2 settled)
 --     trace cs w    the rows of a list of calls
 --     cases-met     one theorem, computed
 --     covers        black pixels, pixels, and the cover expected of them
 --     covers-met    computed
+--     emptyWith t   an empty record, but for its table
+--     tables        one field of each is not zero; unsound-met: computed, with such a table it is unsound
 -- Assumes nothing.
-use mathlib.Core.Bool.{true, cond}
+use mathlib.Core.Bool.{true, false, cond}
 use mathlib.Core.List.{List, [], _∷_, _++_, map}
 use mathlib.Core.Path.{_≡_, refl}
 use Prim.Native.Nat.{ℕ}
@@ -18,8 +20,12 @@ use Rattle.history.specs.Computing.{computing}
 use Rattle.history.specs.History.{History, empty, holds}
 use Rattle.history.specs.Lists.{Course, start, step}
 use Rattle.history.specs.Source.{fromFile}
+use Rattle.history.specs.State.{State, unsound}
 use Rattle.history.specs.View.{viewOf, cover, figuresOf}
 use Rattle.seq.specs.Lists.{sameList}
+use Rattle.table.specs.declared.Table.{Table}
+use Rattle.table.specs.Record.{zeroTable}
+use Rattle.table.specs.Sample.{filled}
 use Rattle.verdict.specs.Answers.{numberOf}
 
 abbrev standing : History → ℕ
@@ -108,3 +114,21 @@ covers =
 pub covers-met : map (λ c. cover (c .0) (c .1)) covers ≡ map (λ c. c .2) covers
 unfolding computing
 covers-met = refl
+
+abbrev emptyWith : Table → State
+emptyWith t = record { job = record { stage = 0; width = 0; height = 0; passes = 0; added = 0; removed = 0; table = t }; first = []; second = [] }
+
+abbrev pub tables : List Table
+tables =
+    filled 1 [] 0 []
+    ∷ filled 0 (0 ∷ 5 ∷ []) 0 []
+    ∷ filled 0 [] 1 []
+    ∷ filled 0 [] 0 (5 ∷ [])
+    ∷ filled 0 [] 0 (0 ∷ 5 ∷ [])
+    ∷ filled 0 [] 0 (0 ∷ 0 ∷ 5 ∷ [])
+    ∷ filled 0 [] 0 (0 ∷ 0 ∷ 0 ∷ 5 ∷ [])
+    ∷ []
+
+pub unsound-met : map (λ t. unsound (emptyWith t)) (zeroTable ∷ tables) ≡ false ∷ map (λ t. true) tables
+unfolding computing
+unsound-met = refl

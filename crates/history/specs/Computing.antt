@@ -7,9 +7,10 @@ unfoldable pub computing : ℕ
 unfolding Rattle.seq.specs.Bits.bit Rattle.seq.specs.Bits.bitsOf Rattle.seq.specs.Tab.upTo Rattle.verdict.specs.Writer.over
     Rattle.table.specs.Mask.positions Rattle.table.specs.Mask.validMask Rattle.table.specs.Mask.meets Rattle.table.specs.Mask.sumInside
     Rattle.table.specs.Mask.sum Rattle.table.specs.Mask.partner Rattle.table.specs.Mask.unpartnered Rattle.table.specs.Mask.persistentFor
-    Rattle.table.specs.Record.masks Rattle.table.specs.Record.persistents Rattle.table.specs.Record.badCount Rattle.table.specs.Record.notRising
-    Rattle.table.specs.Record.badElement Rattle.table.specs.Record.badPlace Rattle.table.specs.Record.badPersistent
-    Rattle.table.specs.Record.disjointFrom Rattle.table.specs.Record.missing Rattle.table.specs.Record.recordVerdict
+    Rattle.table.specs.Record.masks Rattle.table.specs.Record.persistents Rattle.table.specs.Record.badCount Rattle.table.specs.Record.badRanks
+    Rattle.table.specs.Record.notRising Rattle.table.specs.Record.badMask Rattle.table.specs.Record.badElement
+    Rattle.table.specs.Record.badPersistent Rattle.table.specs.Record.badPlace Rattle.table.specs.Record.disjointFrom
+    Rattle.table.specs.Record.missedBy Rattle.table.specs.Record.persistentPlace Rattle.table.specs.Record.recordVerdict
     Rattle.image.specs.File.rasterPixel Rattle.image.specs.File.pixelsOf Rattle.image.specs.File.fileVerdict
     Rattle.image.specs.File.imageVerdict Rattle.image.specs.File.imageRead Rattle.image.specs.File.imageArea Rattle.image.specs.File.pixelVerdict
     Rattle.image.specs.File.rowByte Rattle.image.specs.File.imageBytes Rattle.image.specs.File.writeVerdict Rattle.image.specs.File.imageWritten

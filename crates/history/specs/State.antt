@@ -6,7 +6,7 @@
 --     present s         the area that holds the image: the first when passes is even, else the second
 --     image s           the present image
 --     short j area      an area is shorter than the image
---     fieldsOf j        the fields beside the stage, the table's elements too
+--     fieldsOf j        the fields beside the stage, each place of the table's masks too
 --     nonzero j         one of them is not zero: what 14 asks at stage 0
 --     inconsistent s    what 14 asks at stage 1 and 2
 --     unsound s         01's 14, without its pass clause
@@ -14,7 +14,7 @@
 --     readyVerdict s    14, 16: what pass, run, view and figures begin with
 -- Assumes nothing.
 use mathlib.Core.Bool.{Bool, cond, not, _||_}
-use mathlib.Core.List.{List, [], _∷_}
+use mathlib.Core.List.{List, [], _∷_, _++_}
 use Prim.Native.Nat.{ℕ, _+_, _*_, _%_}
 use lib.Dec.{ltb, eqb}
 use lib.ListN.{length, take}
@@ -50,7 +50,7 @@ short j area = ltb (length area) (pixels j)
 
 abbrev pub fieldsOf : Job → List ℕ
 fieldsOf j =
-    j .width ∷ j .height ∷ j .passes ∷ j .added ∷ j .removed ∷ j .table .count ∷ j .table .persistent ∷ j .table .elements
+    j .width ∷ j .height ∷ j .passes ∷ j .added ∷ j .removed ∷ j .table .count ∷ j .table .ranks ∷ j .table .elements ++ j .table .persistents
 
 unfoldable pub nonzero : Job → Bool
 nonzero j = not (all (eqb 0) (fieldsOf j))

@@ -2,9 +2,9 @@
 --     above-or      a join is above 2 ^ k − 1 exactly when one of the two is
 --     seen-more     where the loop stands, one number more
 --     seen-zero     at its end: the join is 0 exactly when each number is
---     nonzero-join, nonzero-persistent, nonzero-elements     a record with a nonzero field, by the code's tests
+--     nonzero-join, nonzero-persistents, nonzero-elements    a record with a nonzero field, by the code's tests
 -- Assumes nothing.
-use mathlib.Core.Bool.{Bool, true, false, not, _&&_, _||_, and-assoc}
+use mathlib.Core.Bool.{Bool, true, false, not, _&&_, _||_, and-assoc, and-true, and-false, Bool·not-not}
 use mathlib.Core.List.{List}
 use mathlib.Core.Path.{_≡_, refl, sym, ap, _∙_}
 use Prim.Native.Nat.{ℕ, _+_, _-_, _^_, _<_}
@@ -17,7 +17,7 @@ use lib.Pow.{pow-pos}
 use Rattle.history.specs.declared.Job.{Job}
 use Rattle.history.specs.State.{nonzero}
 use Rattle.seq.specs.Lists.{any, all}
-use Rattle.seq.proofs.Fronts.{any-front}
+use Rattle.seq.proofs.Fronts.{any-front, all-append}
 use Rattle.seq.proofs.Lists.{any-ext, not-all}
 
 module _ (k : ℕ) where
@@ -75,20 +75,26 @@ zero-or a b = step (eqb 0 a) refl (eqb 0 b) refl
     step true e false f = ne-eqb 0 (bitOr a b) (λ z. eqb-false 0 b f (omega (arith, or-add-and a b, and-le-l a b)))
     step false e q f = ne-eqb 0 (bitOr a b) (λ z. eqb-false 0 a e (omega (arith, or-add-and a b, and-le-r a b)))
 
--- the join of a record's first six numbers
+-- the join of a record's numbers
 abbrev pub joined : Job → ℕ
-joined j = bitOr (bitOr (bitOr (j .width) (j .height)) (j .passes)) (bitOr (bitOr (j .added) (j .removed)) (j .table .count))
+joined j = bitOr (bitOr (bitOr (j .width) (j .height)) (j .passes)) (bitOr (bitOr (bitOr (j .added) (j .removed)) (j .table .count)) (j .table .ranks))
 
-nonzero-joined : (j : Job) → nonzero j ≡ not (eqb 0 (joined j) && (eqb 0 (j .table .persistent) && all (eqb 0) (j .table .elements)))
+nonzero-joined : (j : Job) → nonzero j ≡ not (eqb 0 (joined j) && (all (eqb 0) (j .table .elements) && all (eqb 0) (j .table .persistents)))
 unfolding nonzero
-nonzero-joined j = simp (zero-or, and-assoc)
+nonzero-joined j = simp (zero-or, and-assoc, all-append)
 
 pub nonzero-join : (j : Job) → (joined j ≡ 0 → ⊥) → true ≡ nonzero j
 nonzero-join j h = sym (nonzero-joined j ∙ rw (ne-eqb 0 (joined j) (λ z. h (sym z))))
 
-pub nonzero-persistent : (j : Job) → joined j ≡ 0 → (j .table .persistent ≡ 0 → ⊥) → true ≡ nonzero j
-nonzero-persistent j z h =
-    sym (nonzero-joined j ∙ rw (eq-eqb 0 (joined j) (sym z), ne-eqb 0 (j .table .persistent) (λ z. h (sym z))))
+module _ (j : Job) (z : joined j ≡ 0) where
+  -- what is left of the test where the numbers are zero
+  left : {b : Bool} → not (all (eqb 0) (j .table .persistents)) ≡ b → nonzero j ≡ not (all (eqb 0) (j .table .elements) && not b)
+  left e =
+      nonzero-joined j ∙ rw (eq-eqb 0 (joined j) (sym z))
+      (ap (λ (b : Bool). not (all (eqb 0) (j .table .elements) && b)) (sym (Bool·not-not (all (eqb 0) (j .table .persistents))) ∙ ap not e))
 
-pub nonzero-elements : (j : Job) → joined j ≡ 0 → j .table .persistent ≡ 0 → not (all (eqb 0) (j .table .elements)) ≡ nonzero j
-nonzero-elements j z y = sym (nonzero-joined j ∙ rw (eq-eqb 0 (joined j) (sym z), eq-eqb 0 (j .table .persistent) (sym y)))
+  pub nonzero-persistents : not (all (eqb 0) (j .table .persistents)) ≡ true → true ≡ nonzero j
+  nonzero-persistents e = sym (left e ∙ ap not (and-false (all (eqb 0) (j .table .elements))))
+
+  pub nonzero-elements : not (all (eqb 0) (j .table .persistents)) ≡ false → not (all (eqb 0) (j .table .elements)) ≡ nonzero j
+  nonzero-elements e = sym (left e ∙ ap not (and-true (all (eqb 0) (j .table .elements))))

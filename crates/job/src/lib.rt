@@ -262,7 +262,8 @@ pub fn empty() -> Job
     let table = Table {
         count: 0,
         elements: [0u32; table::MAX_ELEMENTS],
-        persistent: 0,
+        ranks: 0,
+        persistents: [0u32; table::MAX_RANKS],
     };
     Job {
         stage: sound::EMPTY,

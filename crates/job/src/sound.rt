@@ -1,7 +1,6 @@
 // When a job record is unsound with its areas (01: 14), and ready for a call (14, 16).
 use crate::area;
 use history::Job;
-use table::MAX_ELEMENTS;
 use verdict::Verdict;
 ghost use mathlib.Core.Bool.{not};
 ghost use mathlib.Core.Path.{_≡_};
@@ -77,24 +76,23 @@ fn is_nonzero(job: Job) -> bool
 {
     let table = job.table;
     let sizes = job.width | job.height | job.passes;
-    let counts = job.added | job.removed | table.count;
+    let counts = job.added | job.removed | table.count | table.ranks;
     if sizes | counts != 0 {
         return true;
     }
-    if table.persistent != 0 {
+    if any_nonzero(&table.persistents) {
         return true;
     }
-    let elements = table.elements;
-    any_nonzero(elements)
+    any_nonzero(&table.elements)
 }
 
-fn any_nonzero(elements: [u32; MAX_ELEMENTS]) -> bool
-    ensures { λ r. ⌜ r ≡ not (all (eqb 0) elements) ⌝ }
+fn any_nonzero(masks: &[u32]) -> bool
+    ensures { λ r. ⌜ r ≡ not (all (eqb 0) (now (masks .entry))) ⌝ }
 {
     let mut seen: u32 = 0;
     let mut i = 0;
-    while i < MAX_ELEMENTS {
-        seen = seen | elements[i];
+    while i < masks.len() {
+        seen = seen | masks[i];
         i += 1;
     }
     seen != 0

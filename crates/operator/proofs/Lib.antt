@@ -3,6 +3,7 @@ pub mod Translates
 pub mod System
 pub mod Image
 pub mod Operator
+pub mod Several
 pub mod SingleChange
 pub mod Counts
 pub mod Exchange

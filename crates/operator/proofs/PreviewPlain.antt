@@ -12,7 +12,7 @@ use native.Mathlib.Omega.{arith}
 use borrow.Author.Tests.{eqb-true, ltb-true}
 use lib.Dec.{eqb, ltb, lit<}
 use lib.ListN.{length, replicate}
-use lib.Seq.{take-at}
+use lib.Seq.{take-append-seam}
 use Rattle.seq.specs.Bits.{bit, bitsOf}
 use Rattle.seq.specs.Lists.{any, all, one}
 use Rattle.seq.specs.Tab.{upTo}
@@ -59,14 +59,9 @@ all-inner : all (λ e. all inner (positions e)) medianElements ≡ true
 unfolding medianElements chosen positions bitsOf bit upTo
 all-inner = refl
 
--- there are 56 of them
-median-length : length medianElements ≡ 56
-unfolding medianElements bit upTo
-median-length = refl
-
 masks-median : masks medianTable ≡ medianElements
 unfolding masks medianTable
-masks-median = take-at medianElements (replicate 8 0) 56 median-length
+masks-median = take-append-seam medianElements (replicate (64 - length medianElements) 0)
 
 position-lt : (e : ℕ) {n : ℕ} → List·Memᴰ n (positions e) → n < positionCount
 unfolding positions

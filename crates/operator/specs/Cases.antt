@@ -9,7 +9,7 @@ use lib.ListN.{replicate}
 use Rattle.operator.specs.Heijmans.{psiAt, psi, alpha, beta, modified}
 use Rattle.operator.specs.Image.{exchange}
 use Rattle.operator.specs.Pass.{inside, solid, opened, held, passAt, pass}
-use Rattle.operator.specs.Samples.{ring, cross, dot, chessboard}
+use Rattle.operator.specs.Samples.{oneElement, ring, cross, cobbles, dot, chessboard}
 use Rattle.seq.specs.Bits.{bit, bitsOf}
 use Rattle.seq.specs.Lists.{all, sameList}
 use Rattle.seq.specs.Tab.{upTo}
@@ -24,7 +24,8 @@ abbrev goes : ℕ → Bool
 goes i = sameList (pass ring 5 5 (dot 25 i)) (replicate 25 0)
 
 -- a dot at a corner stands for its own neighbours outside, and stays; one inside goes. In a 4 × 4 image with the dot at (1, 1), no
--- translate that is wholly inside opens (0, 0). Nothing opens a pixel of a chessboard, so it stays, by the report's formula too
+-- translate that is wholly inside opens (0, 0). Nothing opens a pixel of a chessboard, so it stays, by the report's formula too. The dot in
+-- the middle of a 3 × 3 image goes where two persistent elements, wide and tall, open all its neighbours, and stays with either alone
 abbrev cases : List Bool
 cases =
     stays 0
@@ -35,6 +36,10 @@ cases =
     ∷ not (opened ring 4 4 (dot 16 5) 0 0 0)
     ∷ sameList (pass cross 6 6 chessboard) chessboard
     ∷ sameList (modified cross 6 6 chessboard) chessboard
+    ∷ sameList (pass cross 3 3 (dot 9 4)) (dot 9 4)
+    ∷ sameList (pass (oneElement 141440 135168) 3 3 (dot 9 4)) (dot 9 4)
+    ∷ sameList (pass cobbles 3 3 (dot 9 4)) (replicate 9 0)
+    ∷ sameList (modified cobbles 3 3 (dot 9 4)) (replicate 9 0)
     ∷ []
 
 pub cases-met : all (λ b. b) cases ≡ true

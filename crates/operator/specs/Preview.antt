@@ -9,11 +9,10 @@
 --     medianTable       a table with those elements
 --     Preview           it is the plain rule of those elements
 -- Assumes nothing.
-use mathlib.Core.List.{List, [], _∷_, _++_, map}
+use mathlib.Core.List.{List, [], _∷_, map}
 use mathlib.Core.Path.{_≡_}
 use Prim.Native.Nat.{ℕ, _+_, _*_, _/_, _%_, _^_}
 use lib.Dec.{leb, eqb}
-use lib.ListN.{replicate}
 use Rattle.operator.specs.Image.{IsImage}
 use Rattle.operator.specs.Plain.{plain}
 use Rattle.operator.specs.Window.{window, windowAt}
@@ -21,6 +20,7 @@ use Rattle.seq.specs.Bits.{bit}
 use Rattle.seq.specs.Lists.{one, keep, count}
 use Rattle.seq.specs.Tab.{tab, upTo}
 use Rattle.table.specs.declared.Table.{Table}
+use Rattle.table.specs.Sample.{listed}
 
 abbrev pub square : List ℕ
 square = 6 ∷ 7 ∷ 8 ∷ 11 ∷ 12 ∷ 13 ∷ 16 ∷ 17 ∷ 18 ∷ []
@@ -49,7 +49,7 @@ unfoldable pub medianElements : List ℕ
 medianElements = map (λ s. chosen s neighbours) (keep (λ s. eqb (count (bit s) (upTo 8)) 5) (upTo 256))
 
 unfoldable pub medianTable : Table
-medianTable = record { count = 56; elements = medianElements ++ replicate 8 0; persistent = 13597056 }
+medianTable = listed medianElements (13597056 ∷ [])
 
 abbrev pub Preview : Type 0
 Preview = (w h : ℕ) (img : List ℕ) → IsImage w h img → preview w h img ≡ plain medianTable w h img

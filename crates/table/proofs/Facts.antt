@@ -2,28 +2,26 @@
 --     AcceptedTable t      the facts, rule by rule; rules 5 and 7 by positions
 --     accepted-table       they hold of every record that the check accepts
 -- Assumes nothing.
-use mathlib.Core.Bool.{true, false, not}
+use mathlib.Core.Bool.{true, false}
 use mathlib.Core.List.{List·Memᴰ}
 use mathlib.Core.Logic.{⊎-elim}
-use mathlib.Core.Path.{_≡_, sym, subst, _∙_}
-use Prim.Native.Nat.{ℕ, suc, _-_, _≤_, _<_}
+use mathlib.Core.Path.{_≡_, sym, subst}
+use Prim.Native.Nat.{ℕ, suc, _≤_, _<_}
 use native.Mathlib.Nat.{lt-of-lt-of-le}
 use native.Mathlib.Omega.{arith}
-use borrow.Author.Tests.{leb-false, eqb-true, not-false}
-use lib.Dec.{eqb}
+use borrow.Author.Tests.{not-false}
 use Rattle.seq.specs.Bits.{bit}
 use Rattle.seq.specs.Lists.{isSome}
 use Rattle.seq.specs.Tab.{first}
-use Rattle.seq.proofs.Members.{not-some, any-false, take-place}
+use Rattle.seq.proofs.Members.{not-some, take-place}
 use Rattle.seq.proofs.Tab.{first-nothing}
 use Rattle.seq.proofs.Tests.{between, lt-or-le, or-none-left, or-none-right}
 use Rattle.table.specs.declared.Table.{Table}
-use Rattle.table.specs.Code.Search.{badNumber, badAfter, lowestBad}
 use Rattle.table.specs.Mask.{centre, positions, validMask, meets, sumInside, sum, persistentFor}
-use Rattle.table.specs.Record.{maxElements, element, masks, persistents, badElement, badPlace, disjointFrom, missing, meetRule, persistRule, recordVerdict}
+use Rattle.table.specs.Record.{maxElements, maxRanks, element, persistentAt, masks, persistents, badCount, badElement, badPersistent, disjointFrom, missedBy, meetRule, persistRule, recordVerdict}
 use Rattle.table.proofs.Masks.{valid-position, meets-shared, persistent-partner}
-use Rattle.table.proofs.Places.{bad-next, bad-within, bad-past, good-valid}
-use Rattle.table.proofs.Verdicts.{count-le, Sound, record-sound}
+use Rattle.table.proofs.Places.{mask-valid, mask-rises, places-used, places-left}
+use Rattle.table.proofs.Verdicts.{count-le, ranks-le, Sound, record-sound}
 use Rattle.verdict.specs.declared.Verdict.the-variants.{Accepted}
 use Rattle.verdict.proofs.Rules.{orElse-left, orElse-right, refuseAt-accepted}
 
@@ -36,8 +34,11 @@ pub record AcceptedTable (t : Table) : Type 0 where
   pub off-centre : (e : ℕ) → List·Memᴰ e (masks t) → bit e centre ≡ false
   pub rising : (k : ℕ) → suc k < t .count → element t k < element t (suc k)
   pub past-zero : (k : ℕ) → t .count ≤ k → k < maxElements → element t k ≡ 0
+  -- rule 18
+  pub ranks-least : 1 ≤ t .ranks
+  pub ranks-most : t .ranks ≤ maxRanks
   -- rule 6
-  pub persistent-valid : validMask (t .persistent) ≡ true
+  pub persistents-valid : (K : ℕ) → List·Memᴰ K (persistents t) → validMask K ≡ true
   -- rule 5: any two elements share a position
   pub masks-meet : (e f : ℕ) → List·Memᴰ e (masks t) → List·Memᴰ f (masks t)
       → (n : ℕ) × List·Memᴰ n (positions e) × List·Memᴰ n (positions f)
@@ -50,35 +51,47 @@ abbrev Shared : ℕ → ℕ → Type 0
 Shared e f = (n : ℕ) × List·Memᴰ n (positions e) × List·Memᴰ n (positions f)
 
 module _ (t : Table) (s : Sound t) where
-  most : t .count ≤ maxElements
+  pub least : 1 ≤ t .count
+  unfolding badCount
+  least = between 1 (t .count) maxElements (not-false _ (s .counted)) .0
+
+  pub most : t .count ≤ maxElements
   most = count-le (t .count) (s .counted)
 
-  good-place : (k : ℕ) → k < maxElements → badPlace t k ≡ false
-  unfolding lowestBad
-  good-place = first-nothing (badPlace t) maxElements (s .placed)
+  pub few-ranks : (1 ≤ t .ranks) × (t .ranks ≤ maxRanks)
+  few-ranks = ranks-le 1 (t .ranks) (s .ranked)
 
-  good-element : (k : ℕ) → k < t .count → badElement t k ≡ false
-  good-element k l = sym (bad-within t k l) ∙ good-place k (lt-of-lt-of-le l most)
+  pub good-element : (k : ℕ) → k < t .count → badElement t k ≡ false
+  good-element k l = places-used (t .elements) (t .count) (badElement t) maxElements (s .placed) k (lt-of-lt-of-le l most) l
 
-  valid : (k : ℕ) → k < t .count → validMask (element t k) ≡ true
-  valid k l = good-valid t k (good-element k l)
+  pub good-persistent : (r : ℕ) → r < t .ranks → badPersistent t r ≡ false
+  good-persistent r l = places-used (t .persistents) (t .ranks) (badPersistent t) maxRanks (s .ordered) r (lt-of-lt-of-le l (few-ranks .1)) l
+
+  pub valid : (k : ℕ) → k < t .count → validMask (element t k) ≡ true
+  unfolding badElement
+  valid k l = mask-valid (t .elements) k (or-none-right (bit (element t k) centre) _ (good-element k l))
+
+  pub valid-persistent : (r : ℕ) → r < t .ranks → validMask (persistentAt t r) ≡ true
+  unfolding badPersistent
+  valid-persistent r l = mask-valid (t .persistents) r (good-persistent r l)
 
   no-centre : (k : ℕ) → k < t .count → bit (element t k) centre ≡ false
   unfolding badElement
-  no-centre k l = or-none-left (bit (element t k) centre) _ (or-none-right (not (validMask (element t k))) _ (good-element k l))
+  no-centre k l = or-none-left (bit (element t k) centre) _ (good-element k l)
 
   rises : (k : ℕ) → suc k < t .count → element t k < element t (suc k)
-  unfolding badAfter
-  rises k l =
-      let after = sym (bad-next t (suc k) (omega arith)) ∙ good-element (suc k) l in
-      let low = leb-false (element t (suc k)) _ (or-none-right (bit (element t (suc k)) centre) _ (or-none-right (not (validMask (element t (suc k)))) _ after)) in
-      subst (λ (j : ℕ). element t j < element t (suc k)) again low
-    where
-      again : suc k - 1 ≡ k
-      again = omega arith
+  unfolding badElement
+  rises k l = mask-rises (t .elements) k (or-none-right (bit (element t (suc k)) centre) _ (good-element (suc k) l))
 
-  past : (k : ℕ) → t .count ≤ k → k < maxElements → element t k ≡ 0
-  past k l m = eqb-true (element t k) 0 (not-false (eqb (element t k) 0) (sym (bad-past t k l) ∙ good-place k m))
+  pub ranks-rise : (r : ℕ) → suc r < t .ranks → persistentAt t r < persistentAt t (suc r)
+  unfolding badPersistent
+  ranks-rise r l = mask-rises (t .persistents) r (good-persistent (suc r) l)
+
+  pub past : (k : ℕ) → t .count ≤ k → k < maxElements → element t k ≡ 0
+  past k l m = places-left (t .elements) (t .count) (badElement t) maxElements (s .placed) k m l
+
+  pub past-ranks : (r : ℕ) → t .ranks ≤ r → r < maxRanks → persistentAt t r ≡ 0
+  past-ranks r l m = places-left (t .persistents) (t .ranks) (badPersistent t) maxRanks (s .ordered) r m l
 
   -- rule 5 at two places
   meet-at : (j k : ℕ) → j < k → k < t .count → meets (element t k) (element t j) ≡ true
@@ -88,11 +101,11 @@ module _ (t : Table) (s : Sound t) where
       not-false _ (first-nothing _ k (not-some _ (first-nothing _ (t .count) none k l)) j i)
 
   -- rule 7 at a place
-  persist-at : (k : ℕ) → k < t .count → (K : ℕ) → List·Memᴰ K (persistents t) → persistentFor K (element t k) ≡ true
-  unfolding missing
-  persist-at k l K m =
-      let none = refuseAt-accepted (first (missing t) (t .count)) 7 suc (orElse-right (meetRule t) (persistRule t) (s .related)) in
-      not-false _ (any-false _ (first-nothing (missing t) (t .count) none k l) m)
+  pub persist-at : (k r : ℕ) → k < t .count → r < t .ranks → persistentFor (persistentAt t r) (element t k) ≡ true
+  unfolding missedBy
+  persist-at k r l i =
+      let none = refuseAt-accepted (first (λ n. isSome (missedBy t n)) (t .count)) 7 suc (orElse-right (meetRule t) (persistRule t) (s .related)) in
+      not-false _ (first-nothing _ (t .ranks) (not-some _ (first-nothing _ (t .count) none k l)) r i)
 
   -- any two elements, by their places: the later meets the earlier, and an element has a position
   places-meet : (k j : ℕ) → k < t .count → j < t .count → Shared (element t k) (element t j)
@@ -112,18 +125,24 @@ at-masks : (t : Table) (P : ℕ → Type 0) → ((k : ℕ) → k < t .count → 
 unfolding masks
 at-masks t P h e m = let (k, l, q) = take-place (t .count) (t .elements) 0 m in subst P (sym q) (h k l)
 
+-- and what holds at every rank, of every persistent element
+pub at-persistents : (t : Table) (P : ℕ → Type 0) → ((r : ℕ) → r < t .ranks → P (persistentAt t r)) → (K : ℕ) → List·Memᴰ K (persistents t) → P K
+unfolding persistents
+at-persistents t P h K m = let (r, l, q) = take-place (t .ranks) (t .persistents) 0 m in subst P (sym q) (h r l)
+
 pub accepted-table : (t : Table) → recordVerdict t ≡ Accepted → AcceptedTable t
-unfolding badNumber
 accepted-table t ok = record {
-  count-least = between 1 (t .count) maxElements (not-false _ (s .counted)) .0;
+  count-least = least t s;
   count-most = most t s;
   masks-valid = at-masks t (λ e. validMask e ≡ true) (valid t s);
   off-centre = at-masks t (λ e. bit e centre ≡ false) (no-centre t s);
   rising = rises t s;
   past-zero = past t s;
-  persistent-valid = not-false _ (s .valid);
+  ranks-least = few-ranks t s .0;
+  ranks-most = few-ranks t s .1;
+  persistents-valid = at-persistents t (λ K. validMask K ≡ true) (valid-persistent t s);
   masks-meet = λ e f m n. at-masks t (λ x. Shared x f) (λ k l. at-masks t (Shared (element t k)) (λ j i. places-meet t s k j l i) f n) e m;
-  masks-persist = λ K e b k m n. persistent-partner K e b (at-masks t (λ x. persistentFor K x ≡ true) (λ j l. persist-at t s j l K k) e m) n;
+  masks-persist = λ K e b k m n. persistent-partner K e b (at-masks t (λ x. persistentFor K x ≡ true) (λ j l. at-persistents t (λ x. persistentFor x (element t j) ≡ true) (λ r i. persist-at t s j r l i) K k) e m) n;
 }
   where
     s : Sound t

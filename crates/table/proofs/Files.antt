@@ -1,134 +1,132 @@
--- A file's verdict, step by step.
---     file-verdict        the rules in three parts: the count's, the elements', and those behind them
---     read-by, last-by                               the reader's answer by the verdict
---     file-number, file-count, file-elements, file-last      the parts, by what came before
---     last-rules          the rules behind the elements, one by one
---     last-number, last-range, last-bytes, last-relations    the rules behind the elements
---     table-eq, last-table    a record by its fields, and the record that is read
+-- The reader's answer, part by part of a file's rules.
+--     read-part, read-next     a part that refuses, and one that accepts
+--     read-first, read-rest    the same of the first part, for the whole answer
+--     count-judged, elements-judged, persistents-judged     the rules on the counted parts
+--     file-form                the form of a file by its first number
+--     body-by, persistents-by, ranks-by, place-by     what depends on it
+--     single-judged, ranks-judged     the rules on the number of persistent elements, in each form
+--     last-bytes, last-relations      the rules behind the last number
+--     table-eq                 a record by its fields
 -- Assumes nothing.
-use mathlib.Core.Bool.{Bool, true, false, not}
+use mathlib.Core.Bool.{Bool, true, false, not, cond}
 use mathlib.Core.List.{List, [], _∷_, _++_}
 use mathlib.Core.Path.{_≡_, sym, ap, ap₂, _∙_}
-use Prim.Native.Nat.{ℕ, suc, _+_, _-_, _≤_, _<_}
+use Prim.Native.Nat.{ℕ, _+_, _-_, _≤_, _<_}
 use native.Mathlib.Omega.{arith}
 use borrow.Author.Tests.{eq-eqb, ne-eqb}
 use lib.Dec.{eqb}
 use lib.ListN.{length, drop, length-drop}
+use Rattle.seq.specs.Lists.{one, join}
 use Rattle.table.specs.declared.Table.{Table}
-use Rattle.table.specs.declared.number.NumberRead.the-variants as read
-use Rattle.table.specs.Code.Cursor.{numberAt}
-use Rattle.table.specs.Code.Reading.{behindRules, CountRead, LastRead}
-use Rattle.table.specs.Code.Search.{badNumber}
-use Rattle.table.specs.File.{rest, number, tableOf, bytesLeft, elementsRules, persistentRules, lastRules, fileVerdict, readAs, readTable}
-use Rattle.table.specs.Mask.{validMask}
-use Rattle.table.specs.Number.{size, value, numberRules}
-use Rattle.table.specs.Record.{badCount, badPersistent, countRule, persistentRule, meetRule, persistRule}
-use Rattle.table.proofs.Cursor.{rules-refused, rules-read}
+use Rattle.table.specs.declared.mask.Kind.the-variants.{Element, Persistent}
+use Rattle.table.specs.Code.Reading.{readFrom, masksJudged}
+use Rattle.table.specs.Code.Search.{badOf}
+use Rattle.table.specs.File.{number, skipIf, several, body, elementCount, elementBytes, rankBytes, rankCount, persistentBytes, leftBytes, firstPlace, tableOf, bytesLeft, countRules, elementsRules, ranksRules, persistentsRules, lastRules, fileParts, fileVerdict, readAs, readTable}
+use Rattle.table.specs.Number.{numberRules}
+use Rattle.table.specs.Record.{maxElements, maxRanks, badCount, badRanks, badElement, badPersistent, countRule, meetRule, persistRule}
+use Rattle.table.proofs.Judging.{part-refuses, part-accepts}
+use Rattle.table.proofs.Tables.{masks-rules}
 use Rattle.verdict.specs.declared.Refusal.{Refusal}
 use Rattle.verdict.specs.declared.Verdict.{Verdict}
-use Rattle.verdict.specs.declared.Verdict.the-variants.{Refused}
+use Rattle.verdict.specs.declared.Verdict.the-variants.{Accepted, Refused}
 use Rattle.verdict.specs.Rules.{refusal, refuseIf, orElse, judge}
-use Rattle.verdict.proofs.Rules.{judge-append, orElse-assoc, orElse-accepted}
-
--- a list of rules in four parts, the first with a rule of its own at its end
-four : (a : List Verdict) (u : Verdict) (b c d : List Verdict) → judge ((((a ++ u ∷ []) ++ b) ++ c) ++ d) ≡ orElse (judge a) (orElse u (orElse (judge b) (judge (c ++ d))))
-four a u b c d = simp (judge-append, orElse-assoc)
-
-pub file-verdict : (f : List ℕ)
-    → fileVerdict f ≡ orElse (judge (numberRules 0 f)) (orElse (countRule (tableOf f)) (orElse (judge (elementsRules f)) (judge (behindRules f))))
-unfolding fileVerdict
-file-verdict f = four (numberRules 0 f) (countRule (tableOf f)) (elementsRules f) (persistentRules f) (lastRules f)
-
-pub read-by : (f : List ℕ) {v : Verdict} → fileVerdict f ≡ v → readAs v (tableOf f) ≡ readTable f
-unfolding readTable
-read-by f e = ap (λ (v : Verdict). readAs v (tableOf f)) (sym e)
-
-pub last-by : (f : List ℕ) {v : Verdict} → judge (behindRules f) ≡ v → readAs v (tableOf f) ≡ readAs (judge (behindRules f)) (tableOf f)
-last-by f e = ap (λ (v : Verdict). readAs v (tableOf f)) (sym e)
+use Rattle.verdict.proofs.Rules.{judge-append, judge-last, orElse-accepted}
 
 module _ (f : List ℕ) where
-  pub file-number : {r : Refusal} → judge (numberRules 0 f) ≡ Refused r → fileVerdict f ≡ Refused r
-  file-number e = file-verdict f ∙ simp e
+  -- the answer by the verdict of the rules that are left
+  by : {v w : Verdict} → v ≡ w → readAs w (tableOf f) ≡ readAs v (tableOf f)
+  by e = ap (λ (v : Verdict). readAs v (tableOf f)) (sym e)
 
-  module _ {count at : ℕ} (c : CountRead f count at) {b : Bool} (e : badNumber count ≡ b) where
-    -- the count's own rules
-    counted : fileVerdict f ≡ orElse (refuseIf b 3 0) (orElse (judge (elementsRules f)) (judge (behindRules f)))
-    unfolding badCount badNumber tableOf
-    counted = file-verdict f ∙ ap₂ orElse (c .accepted) (ap (λ (t : Bool). orElse (refuseIf t 3 0) (orElse (judge (elementsRules f)) (judge (behindRules f)))) (ap badNumber (sym (c .counted)) ∙ e))
+  module _ (part : List Verdict) (parts : List (List Verdict)) where
+    pub read-part : {r : Refusal} → judge part ≡ Refused r → readAs (Refused r) (tableOf f) ≡ readAs (judge (join (part ∷ parts))) (tableOf f)
+    read-part e = by (part-refuses part parts e)
 
-  pub file-count : {count at : ℕ} → CountRead f count at → badNumber count ≡ true → fileVerdict f ≡ Refused (refusal 3 0)
-  file-count c b = counted c b
+    pub read-next : judge part ≡ Accepted → readAs (judge (join parts)) (tableOf f) ≡ readAs (judge (join (part ∷ parts))) (tableOf f)
+    read-next e = by (part-accepts part parts e)
 
-  pub file-elements : {count at : ℕ} {v : Verdict} → CountRead f count at → badNumber count ≡ false → judge (elementsRules f) ≡ v
-      → fileVerdict f ≡ orElse v (judge (behindRules f))
-  file-elements c b e = counted c b ∙ ap (λ (v : Verdict). orElse v (judge (behindRules f))) e
+  pub read-first : {r : Refusal} → judge (numberRules 0 f) ≡ Refused r → readAs (Refused r) (tableOf f) ≡ readTable f
+  unfolding readTable fileVerdict
+  read-first = read-part (numberRules 0 f) (drop 1 (fileParts f))
 
--- the rules on the persistent element's number, then its range rule, then the others
-pub last-rules : (f : List ℕ)
-    → judge (behindRules f)
-    ≡ orElse (judge (numberRules (number f 0 + 1) (rest f (number f 0 + 1))))
-    (orElse (persistentRule (tableOf f)) (orElse (refuseIf (bytesLeft f) 8 (number f 0 + 2)) (orElse (meetRule (tableOf f)) (persistRule (tableOf f)))))
-last-rules f = simp (orElse-assoc, orElse-accepted)
+  pub read-rest : judge (numberRules 0 f) ≡ Accepted → readFrom 1 f ≡ readTable f
+  unfolding readTable fileVerdict
+  read-rest = read-next (numberRules 0 f) (drop 1 (fileParts f))
+
+  pub count-judged : {v : Verdict} {count : ℕ} {b : Bool} → judge (numberRules 0 (body f)) ≡ v → count ≡ elementCount f → badCount count ≡ b
+      → judge (countRules f) ≡ orElse v (refuseIf b 3 0)
+  unfolding tableOf badCount
+  count-judged e c q =
+      judge-last (numberRules 0 (body f)) (countRule (tableOf f))
+      ∙ ap₂ (λ (v : Verdict) (b : Bool). orElse v (refuseIf b 3 0)) e (ap badCount (sym c) ∙ q)
+
+  pub elements-judged : elementCount f ≤ maxElements → judge (elementsRules f) ≡ masksJudged Element (elementBytes f) 1 (elementCount f)
+  unfolding tableOf badElement badOf
+  elements-judged = masks-rules Element (elementBytes f) 1 (elementCount f) maxElements
+
+  pub persistents-judged : rankCount f ≤ maxRanks → judge (persistentsRules f) ≡ masksJudged Persistent (persistentBytes f) (firstPlace f) (rankCount f)
+  unfolding tableOf badPersistent badOf
+  persistents-judged = masks-rules Persistent (persistentBytes f) (firstPlace f) (rankCount f) maxRanks
+
+  -- ---- the two forms
+
+  -- the rules on the number of several persistent elements
+  abbrev pub severalRules : List Verdict
+  severalRules = numberRules (elementCount f + 1) (rankBytes f) ++ refuseIf (badRanks 2 (rankCount f)) 18 (elementCount f + 1) ∷ []
+
+  pub file-form : {n : ℕ} {b : Bool} → n ≡ number f 0 → eqb n 0 ≡ b → b ≡ several f
+  unfolding several
+  file-form e q = sym (ap (λ (m : ℕ). eqb m 0) (sym e) ∙ q)
+
+  module _ {b : Bool} (form : b ≡ several f) where
+    pub body-by : skipIf b f ≡ body f
+    unfolding body
+    body-by = ap (λ (t : Bool). skipIf t f) form
+
+    pub persistents-by : skipIf b (rankBytes f) ≡ persistentBytes f
+    unfolding persistentBytes
+    persistents-by = ap (λ (t : Bool). skipIf t (rankBytes f)) form
+
+    pub ranks-by : cond b (number (rankBytes f) 0) 1 ≡ rankCount f
+    unfolding rankCount
+    ranks-by = ap (λ (t : Bool). cond t (number (rankBytes f) 0) 1) form
+
+    pub place-by : elementCount f + 1 + one b ≡ firstPlace f
+    unfolding firstPlace
+    place-by = ap (λ (t : Bool). elementCount f + 1 + one t) form
+
+  pub single-judged : false ≡ several f → judge (ranksRules f) ≡ Accepted
+  single-judged e = ap (λ (t : Bool). judge (cond t severalRules [])) (sym e)
+
+  pub ranks-judged : {v : Verdict} {ranks : ℕ} {b : Bool} → true ≡ several f → judge (numberRules (elementCount f + 1) (rankBytes f)) ≡ v → ranks ≡ rankCount f → badRanks 2 ranks ≡ b
+      → judge (ranksRules f) ≡ orElse v (refuseIf b 18 (elementCount f + 1))
+  ranks-judged e q r w =
+      ap (λ (t : Bool). judge (cond t severalRules [])) (sym e)
+      ∙ judge-last (numberRules (elementCount f + 1) (rankBytes f)) (refuseIf (badRanks 2 (rankCount f)) 18 (elementCount f + 1))
+      ∙ ap₂ (λ (v : Verdict) (b : Bool). orElse v (refuseIf b 18 (elementCount f + 1))) q (ap (badRanks 2) (sym r) ∙ w)
+
+  -- ---- behind the last number
+
+  module _ (past : ℕ) (reached : drop past f ≡ leftBytes f) where
+    left : {b : Bool} → eqb (length f - past) 0 ≡ b
+        → judge (lastRules f) ≡ orElse (refuseIf (not b) 8 (firstPlace f + rankCount f)) (orElse (meetRule (tableOf f)) (persistRule (tableOf f)))
+    unfolding bytesLeft
+    left e =
+        ap₂ (λ (b : Bool) (v : Verdict). orElse (refuseIf (not b) 8 (firstPlace f + rankCount f)) (orElse (meetRule (tableOf f)) v))
+        (ap (λ (t : List ℕ). eqb (length t) 0) (sym reached) ∙ ap (λ (n : ℕ). eqb n 0) (length-drop past f) ∙ e)
+        (orElse-accepted (persistRule (tableOf f)))
+
+    pub last-bytes : past < length f → judge (lastRules f) ≡ Refused (refusal 8 (firstPlace f + rankCount f))
+    last-bytes h = left (ne-eqb (length f - past) 0 (λ z. omega arith))
+
+    pub last-relations : length f ≤ past → readAs (orElse (meetRule (tableOf f)) (persistRule (tableOf f))) (tableOf f) ≡ readFrom 5 f
+    last-relations h = by (judge-append (lastRules f) [] ∙ orElse-accepted (judge (lastRules f)) ∙ left (eq-eqb (length f - past) 0 (omega arith)))
 
 -- a record by its fields
-pub table-eq : (t : Table) {count persistent : ℕ} {elements : List ℕ} → count ≡ t .count → elements ≡ t .elements → persistent ≡ t .persistent
-    → _≡_ {A = Table} record { count = count; elements = elements; persistent = persistent } t
-table-eq t {count} {persistent} {elements} p q r =
-    ap (λ (c : ℕ). made c elements persistent) p ∙ ap (λ (e : List ℕ). made (t .count) e persistent) q ∙ ap (made (t .count) (t .elements)) r
+pub table-eq : (t : Table) {count ranks : ℕ} {elements persistents : List ℕ} → count ≡ t .count → elements ≡ t .elements → ranks ≡ t .ranks → persistents ≡ t .persistents
+    → _≡_ {A = Table} record { count = count; elements = elements; ranks = ranks; persistents = persistents } t
+table-eq t {count} {ranks} {elements} {persistents} p q r s =
+    ap (λ (c : ℕ). made c elements ranks persistents) p ∙ ap (λ (e : List ℕ). made (t .count) e ranks persistents) q
+    ∙ ap (λ (n : ℕ). made (t .count) (t .elements) n persistents) r ∙ ap (made (t .count) (t .elements) (t .ranks)) s
   where
-    made : ℕ → List ℕ → ℕ → Table
-    made c e k = record { count = c; elements = e; persistent = k }
-
-module _ {f : List ℕ} {count at : ℕ} {elements : List ℕ} (s : LastRead f count elements at) where
-  last-parts : judge (behindRules f)
-      ≡ orElse (judge (numberRules (number f 0 + 1) (drop at f)))
-      (orElse (persistentRule (tableOf f)) (orElse (refuseIf (bytesLeft f) 8 (number f 0 + 2)) (orElse (meetRule (tableOf f)) (persistRule (tableOf f)))))
-  last-parts = rw (s .reached) (last-rules f)
-
-  pub last-number : {i : ℕ} → numberAt f at ≡ read.Refused i → judge (behindRules f) ≡ Refused (refusal i (count + 1))
-  last-number {i} q = last-parts ∙ simp (rules-refused f at (number f 0 + 1) q) (ap (λ (n : ℕ). Refused (refusal i (n + 1))) (sym (s .counted)))
-
-  module _ {persistent past : ℕ} (q : numberAt f at ≡ read.Number persistent past) where
-    is-number : persistent ≡ number f (number f 0 + 1)
-    is-number = rules-read f at 0 q .1 ∙ ap value (s .reached)
-
-    pub last-table : _≡_ {A = Table} record { count = count; elements = elements; persistent = persistent } (tableOf f)
-    unfolding tableOf
-    last-table = table-eq (tableOf f) (s .counted) (s .stored) is-number
-
-    persistent-rule : {b : Bool} → not (validMask persistent) ≡ b → persistentRule (tableOf f) ≡ refuseIf b 6 (count + 1)
-    unfolding badPersistent tableOf
-    persistent-rule e = ap₂ (λ (t : Bool) (n : ℕ). refuseIf t 6 (n + 1)) (ap (λ (m : ℕ). not (validMask m)) (sym is-number) ∙ e) (sym (s .counted))
-
-    -- what stands behind the persistent element
-    behind : rest f (number f 0 + 2) ≡ drop past f
-    behind = ap (rest f) two ∙ sym (rules-read f at 0 q .2 ∙ ap (λ (t : List ℕ). drop (size t) t) (s .reached))
-      where
-        two : number f 0 + 2 ≡ suc (number f 0 + 1)
-        two = omega arith
-
-    bytes-rule : {b : Bool} → eqb (length f - past) 0 ≡ b → refuseIf (bytesLeft f) 8 (number f 0 + 2) ≡ refuseIf (not b) 8 (count + 2)
-    unfolding bytesLeft
-    bytes-rule e =
-        ap₂ (λ (t : Bool) (n : ℕ). refuseIf (not t) 8 (n + 2))
-        (ap (λ (t : List ℕ). eqb (length t) 0) behind ∙ ap (λ (n : ℕ). eqb n 0) (length-drop past f) ∙ e) (sym (s .counted))
-
-    ranged : {b : Bool} → not (validMask persistent) ≡ b
-        → judge (behindRules f) ≡ orElse (refuseIf b 6 (count + 1)) (orElse (refuseIf (bytesLeft f) 8 (number f 0 + 2)) (orElse (meetRule (tableOf f)) (persistRule (tableOf f))))
-    ranged e =
-        last-parts
-        ∙ ap₂ (λ (v w : Verdict). orElse v (orElse w (orElse (refuseIf (bytesLeft f) 8 (number f 0 + 2)) (orElse (meetRule (tableOf f)) (persistRule (tableOf f))))))
-        (rules-read f at (number f 0 + 1) q .0) (persistent-rule e)
-
-    pub last-range : not (validMask persistent) ≡ true → judge (behindRules f) ≡ Refused (refusal 6 (count + 1))
-    last-range b = ranged b
-
-    module _ (b : not (validMask persistent) ≡ false) where
-      left : {e : Bool} → eqb (length f - past) 0 ≡ e → judge (behindRules f) ≡ orElse (refuseIf (not e) 8 (count + 2)) (orElse (meetRule (tableOf f)) (persistRule (tableOf f)))
-      left e = ranged b ∙ ap (λ (v : Verdict). orElse v (orElse (meetRule (tableOf f)) (persistRule (tableOf f)))) (bytes-rule e)
-
-      pub last-bytes : past < length f → judge (behindRules f) ≡ Refused (refusal 8 (count + 2))
-      last-bytes h = left (ne-eqb (length f - past) 0 (λ z. omega arith))
-
-      pub last-relations : length f ≤ past → judge (behindRules f) ≡ orElse (meetRule (tableOf f)) (persistRule (tableOf f))
-      last-relations h = left (eq-eqb (length f - past) 0 (omega arith))
+    made : ℕ → List ℕ → ℕ → List ℕ → Table
+    made c e n k = record { count = c; elements = e; ranks = n; persistents = k }

@@ -1,9 +1,10 @@
--- Check lists that go number by number: `rules k` for each k below a bound.
+-- Check lists in parts, and those that go number by number: `rules k` for each k below a bound.
 --     four-accepted                        four verdicts in a row
+--     part-refuses, part-accepts, part-split     check lists in parts: the first part refuses; it accepts; where all of them accept
 --     judge-more, judge-each, judge-at     one number more that accepts; each that is accepted; the first that refuses
 -- Assumes nothing.
-use mathlib.Core.List.{List, map}
-use mathlib.Core.Path.{_≡_, refl, ap, ap₂, _∙_}
+use mathlib.Core.List.{List, _∷_, map}
+use mathlib.Core.Path.{_≡_, refl, sym, ap, ap₂, _∙_}
 use Prim.Native.Nat.{ℕ, suc, _<_}
 use native.Mathlib.Decide.{le-ind}
 use Rattle.seq.specs.Lists.{join}
@@ -11,12 +12,11 @@ use Rattle.seq.specs.Tab.{upTo}
 use Rattle.seq.proofs.Joins.{join-upTo}
 use Rattle.seq.proofs.Lists.{join-intro, map-intro}
 use Rattle.seq.proofs.Tab.{upTo-intro}
-use Rattle.table.specs.declared.number.NumberRead.the-variants as read
 use Rattle.verdict.specs.declared.Refusal.{Refusal}
 use Rattle.verdict.specs.declared.Verdict.{Verdict}
 use Rattle.verdict.specs.declared.Verdict.the-variants.{Accepted, Refused}
 use Rattle.verdict.specs.Rules.{orElse, judge}
-use Rattle.verdict.proofs.Rules.{refused-accepted, judge-append, judge-accepted, accepted-judge}
+use Rattle.verdict.proofs.Rules.{refused-accepted, judge-append, judge-accepted, accepted-judge, orElse-left, orElse-right}
 
 -- where four verdicts in a row accept, each does
 pub four-accepted : (a b c d : Verdict) → orElse a (orElse b (orElse c d)) ≡ Accepted → (a ≡ Accepted) × (b ≡ Accepted) × (c ≡ Accepted) × (d ≡ Accepted)
@@ -24,6 +24,19 @@ four-accepted Accepted Accepted Accepted d q = (refl, refl, refl, q)
 four-accepted Accepted Accepted (Refused r) d q = refused-accepted refl q
 four-accepted Accepted (Refused r) c d q = refused-accepted refl q
 four-accepted (Refused r) b c d q = refused-accepted refl q
+
+-- check lists in parts, one after the other
+module _ (part : List Verdict) (parts : List (List Verdict)) where
+  pub part-refuses : {r : Refusal} → judge part ≡ Refused r → judge (join (part ∷ parts)) ≡ Refused r
+  part-refuses e = judge-append part (join parts) ∙ ap (λ (v : Verdict). orElse v (judge (join parts))) e
+
+  pub part-accepts : judge part ≡ Accepted → judge (join (part ∷ parts)) ≡ judge (join parts)
+  part-accepts e = judge-append part (join parts) ∙ ap (λ (v : Verdict). orElse v (judge (join parts))) e
+
+  pub part-split : judge (join (part ∷ parts)) ≡ Accepted → (judge part ≡ Accepted) × (judge (join parts) ≡ Accepted)
+  part-split e =
+      let w = sym (judge-append part (join parts)) ∙ e in
+      (orElse-left (judge part) (judge (join parts)) w, orElse-right (judge part) (judge (join parts)) w)
 
 module _ (rules : ℕ → List Verdict) where
   -- the verdict on the numbers below k

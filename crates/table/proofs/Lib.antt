@@ -1,5 +1,6 @@
 pub mod Bytes
 pub mod Cases
+pub mod Chains
 pub mod Cursor
 pub mod Facts
 pub mod Fewest
@@ -10,8 +11,10 @@ pub mod Groups
 pub mod Judging
 pub mod Masks
 pub mod Outputs
+pub mod Parts
 pub mod Places
 pub mod Positions
+pub mod Ranks
 pub mod RecordBack
 pub mod RoundTrip
 pub mod Steps

@@ -1,21 +1,22 @@
--- Small cases that fix what 01's rules say where a definition could be read another way.
+-- Small cases that fix what the rules of 01 and of 02's T-01 say where a definition could be read another way.
 --     records, files     with the verdict expected of each
+--     whole              accepted files with their records
 --     Cases              the definitions give what is expected
 -- Assumes nothing.
-use mathlib.Core.List.{List, [], _∷_, _++_, map}
+use mathlib.Core.List.{List, [], _∷_, map}
 use mathlib.Core.Path.{_≡_}
-use Prim.Native.Nat.{ℕ, _-_}
-use lib.ListN.{length, replicate}
+use Prim.Native.Nat.{ℕ}
 use Rattle.table.specs.declared.Table.{Table}
-use Rattle.table.specs.File.{fileVerdict}
-use Rattle.table.specs.Record.{maxElements, recordVerdict}
+use Rattle.table.specs.File.{tableOf, fileVerdict, tableBytes}
+use Rattle.table.specs.Record.{recordVerdict}
+use Rattle.table.specs.Sample.{filled, listed}
 use Rattle.verdict.specs.declared.Verdict.{Verdict}
 use Rattle.verdict.specs.declared.Verdict.the-variants.{Accepted, Refused}
 use Rattle.verdict.specs.Rules.{refusal}
 
--- a record with these elements
+-- a record with these elements and one persistent element
 abbrev of : List ℕ → ℕ → Table
-of es K = record { count = length es; elements = es ++ replicate (maxElements - length es) 0; persistent = K }
+of es K = listed es (K ∷ [])
 
 abbrev refused : ℕ → ℕ → Verdict
 refused n p = Refused (refusal n p)
@@ -38,7 +39,28 @@ records =
     ∷ (of (10240 ∷ []) 135168, refused 7 1)
     ∷ (of (10240 ∷ []) 49152, refused 7 1)
     -- a place past the count is zero
-    ∷ (record { count = 1; elements = 141440 ∷ 0 ∷ 0 ∷ 9 ∷ replicate 60 0; persistent = 12288 }, refused 4 4)
+    ∷ (filled 1 (141440 ∷ 0 ∷ 0 ∷ 9 ∷ []) 1 (12288 ∷ []), refused 4 4)
+    -- one to four persistent elements; an element speaks before their number, and that before themselves
+    ∷ (of (469440 ∷ []) 405504, Accepted)
+    ∷ (filled 1 (469440 ∷ []) 0 (405504 ∷ []), refused 18 2)
+    ∷ (filled 1 (469440 ∷ []) 5 (1 ∷ 2 ∷ 3 ∷ 4 ∷ []), refused 18 2)
+    ∷ (filled 1 (4096 ∷ []) 0 [], refused 4 1)
+    ∷ (filled 1 (469440 ∷ 0 ∷ 9 ∷ []) 0 [], refused 4 3)
+    -- a single one stands at count + 1; past it places are zero, and stand where they would among several
+    ∷ (filled 1 (469440 ∷ []) 1 (0 ∷ 7 ∷ []), refused 6 2)
+    ∷ (filled 1 (469440 ∷ []) 1 (405504 ∷ 7 ∷ []), refused 6 4)
+    ∷ (filled 1 (469440 ∷ []) 1 (405504 ∷ 0 ∷ 0 ∷ 7 ∷ []), refused 6 6)
+    -- of several, rank r stands at count + 1 + r; they rise strictly
+    ∷ (filled 1 (141440 ∷ []) 2 (0 ∷ 12288 ∷ []), refused 6 3)
+    ∷ (filled 1 (141440 ∷ []) 2 (12288 ∷ 12288 ∷ []), refused 6 4)
+    ∷ (filled 1 (141440 ∷ []) 2 (12288 ∷ 135168 ∷ 135169 ∷ []), refused 6 5)
+    ∷ (filled 1 (141440 ∷ []) 3 (12288 ∷ 135168 ∷ 33554432 ∷ []), refused 6 5)
+    ∷ (filled 1 (141440 ∷ []) 4 (6144 ∷ 12288 ∷ 135168 ∷ 405504 ∷ []), Accepted)
+    -- their range speaks before disjoint elements
+    ∷ (filled 2 (2048 ∷ 8192 ∷ []) 2 (12288 ∷ 12288 ∷ []), refused 6 5)
+    -- each is persistent alone; the lowest element that some of them misses is named
+    ∷ (filled 1 (141440 ∷ []) 2 (12288 ∷ 266240 ∷ []), refused 7 1)
+    ∷ (filled 2 (10368 ∷ 133248 ∷ []) 2 (12288 ∷ 135168 ∷ []), refused 7 1)
     ∷ []
 
 abbrev pub files : List (List ℕ × Verdict)
@@ -55,8 +77,42 @@ files =
     ∷ (0x02 ∷ 0x80 ∷ 0x10 ∷ 0x80 ∷ 0x40 ∷ 0x80 ∷ 0x60 ∷ [], refused 5 2)
     -- a range speaks before the next number's end
     ∷ (0x02 ∷ 0x00 ∷ [], refused 4 1)
+    -- a leading 0 opens the form of several persistent elements; place 0 is its place and the element count's, and a second 0 is a count
+    ∷ ([], refused 1 0)
+    ∷ (0x00 ∷ [], refused 1 0)
+    ∷ (0x00 ∷ 0x00 ∷ [], refused 3 0)
+    ∷ (0x00 ∷ 0x41 ∷ [], refused 3 0)
+    ∷ (0x41 ∷ [], refused 3 0)
+    ∷ (0x80 ∷ 0x00 ∷ [], refused 2 0)
+    ∷ (0x00 ∷ 0x81 ∷ 0x00 ∷ [], refused 2 0)
+    ∷ (0x00 ∷ 0x01 ∷ [], refused 1 1)
+    -- the number of persistent elements, at count + 1: 1, 2, then 18; in this form it is not 1
+    ∷ (0x00 ∷ 0x01 ∷ 0xC0 ∷ 0xD3 ∷ 0x1C ∷ [], refused 1 2)
+    ∷ (0x00 ∷ 0x01 ∷ 0xC0 ∷ 0xD3 ∷ 0x1C ∷ 0x82 ∷ 0x00 ∷ [], refused 2 2)
+    ∷ (0x00 ∷ 0x01 ∷ 0xC0 ∷ 0xD3 ∷ 0x1C ∷ 0x00 ∷ [], refused 18 2)
+    ∷ (0x00 ∷ 0x01 ∷ 0xC0 ∷ 0xD3 ∷ 0x1C ∷ 0x01 ∷ 0x80 ∷ 0xE0 ∷ 0x18 ∷ [], refused 18 2)
+    ∷ (0x00 ∷ 0x01 ∷ 0xC0 ∷ 0xD3 ∷ 0x1C ∷ 0x05 ∷ [], refused 18 2)
+    -- the persistent elements follow it, and rise
+    ∷ (0x00 ∷ 0x01 ∷ 0xC0 ∷ 0xD3 ∷ 0x1C ∷ 0x02 ∷ [], refused 1 3)
+    ∷ (0x00 ∷ 0x01 ∷ 0xC0 ∷ 0xD3 ∷ 0x1C ∷ 0x02 ∷ 0x00 ∷ 0x80 ∷ 0xE0 ∷ 0x18 ∷ [], refused 6 3)
+    ∷ (0x00 ∷ 0x01 ∷ 0x80 ∷ 0xD1 ∷ 0x08 ∷ 0x02 ∷ 0x80 ∷ 0xA0 ∷ 0x08 ∷ 0x80 ∷ 0x60 ∷ [], refused 6 4)
+    -- then 8, 5 and 7
+    ∷ (0x00 ∷ 0x01 ∷ 0x80 ∷ 0xD1 ∷ 0x08 ∷ 0x02 ∷ 0x80 ∷ 0x60 ∷ 0x80 ∷ 0xA0 ∷ 0x08 ∷ 0x00 ∷ [], refused 8 5)
+    ∷ (0x00 ∷ 0x02 ∷ 0x80 ∷ 0x10 ∷ 0x80 ∷ 0x40 ∷ 0x02 ∷ 0x80 ∷ 0x60 ∷ 0x80 ∷ 0xA0 ∷ 0x08 ∷ [], refused 5 2)
+    ∷ (0x00 ∷ 0x01 ∷ 0xC0 ∷ 0xD3 ∷ 0x1C ∷ 0x02 ∷ 0x80 ∷ 0x20 ∷ 0x80 ∷ 0xE0 ∷ 0x18 ∷ [], refused 7 1)
+    ∷ (0x00 ∷ 0x01 ∷ 0x80 ∷ 0xD1 ∷ 0x08 ∷ 0x02 ∷ 0x80 ∷ 0x60 ∷ 0x80 ∷ 0xA0 ∷ 0x08 ∷ [], Accepted)
+    -- a file of the form with one has one
+    ∷ (0x01 ∷ 0xC0 ∷ 0xD3 ∷ 0x1C ∷ 0x80 ∷ 0xE0 ∷ 0x18 ∷ [], Accepted)
+    ∷ []
+
+-- files that are accepted and come back, with the record that they make
+abbrev pub whole : List (List ℕ × Table)
+whole =
+    (0x01 ∷ 0xC0 ∷ 0xD3 ∷ 0x1C ∷ 0x80 ∷ 0xE0 ∷ 0x18 ∷ [], of (469440 ∷ []) 405504)
+    ∷ (0x00 ∷ 0x01 ∷ 0x80 ∷ 0xD1 ∷ 0x08 ∷ 0x02 ∷ 0x80 ∷ 0x60 ∷ 0x80 ∷ 0xA0 ∷ 0x08 ∷ [], filled 1 (141440 ∷ []) 2 (12288 ∷ 135168 ∷ []))
     ∷ []
 
 pub record Cases : Type 0 where
   pub records-met : map (λ c. recordVerdict (c .0)) records ≡ map (λ c. c .1) records
   pub files-met : map (λ c. fileVerdict (c .0)) files ≡ map (λ c. c .1) files
+  pub whole-met : (map (λ c. tableOf (c .0)) whole ≡ map (λ c. c .1) whole) × (map (λ c. tableBytes (c .1)) whole ≡ map (λ c. c .0) whole)

@@ -3,5 +3,7 @@ pub mod Record
 pub mod Number
 pub mod File
 pub mod RoundTrip
+pub mod Sample
+pub mod Ranks
 pub mod Cases
 pub mod Code

@@ -1,17 +1,20 @@
--- The verdict on a table record (01: 3, 4, 6, 5, 7).
+-- The verdict on a table record (01: 3, 4, 6, 5, 7; 02, T-01: 18 before 6).
 --     maxElements         the most elements of a table, and the element places of a record
---     element t k         element place k, from 0
+--     maxRanks            the most persistent elements of a table, and their places in a record
+--     element t k         element place k, from 0; persistentAt t r: the place of a persistent element (02: keeper), from 0
 --     masks t             the elements
---     persistents t       the persistent elements (01: the keeper)
+--     persistents t       the persistent elements
 --     zeroTable           every field zero
---     badCount t          rule 3
---     notRising t k       element k is not above the one before
---     badElement t k      rule 4 at an element place below the count; badPlace t k: at any place of a record
---     badPersistent t     rule 6
+--     badCount n          rule 3: n is no number of elements
+--     badRanks least n    rule 18: n is no number of persistent elements, where there are `least` or more
+--     notRising ms k      mask k of the list ms is not above the one before
+--     badMask ms k        mask k has no position, a bit that is none, or does not rise
+--     badElement t k      rule 4 on an element; badPersistent t r: rule 6 on a persistent element
+--     badPlace ms n bad k    on any place k of a record, of which n are in use: `bad k` on those, and the others are zero
 --     disjointFrom t k    rule 5: the lowest earlier element that shares no position with element k
---     missing t k         rule 7: some persistent element is not persistent for element k
---     countRule t, persistentRule t, meetRule t, persistRule t     3, 6, 5, 7 with their places
---     placesRule t        4 on a record; elementRule t k: on one element of a file
+--     missedBy t k        rule 7: the lowest of the persistent elements that is not persistent for element k
+--     persistentPlace t r    the place of a persistent element: count + 1 and its rank from 1, but count + 1 where it is the only one
+--     countRule t, placesRule t, ranksRule t, persistentRule t, meetRule t, persistRule t     3, 4, 18, 6, 5, 7 with their places
 --     recordRules t       the rules, in their order
 --     recordVerdict t     accepted, or number and place
 -- Assumes nothing.
@@ -22,7 +25,7 @@ use Prim.Native.Nat.{ℕ, suc, _+_, _-_}
 use lib.Dec.{leb, ltb, eqb}
 use lib.ListN.{getD, take, replicate}
 use Rattle.seq.specs.Bits.{bit}
-use Rattle.seq.specs.Lists.{any, isSome}
+use Rattle.seq.specs.Lists.{isSome}
 use Rattle.seq.specs.Tab.{first}
 use Rattle.table.specs.declared.Table.{Table}
 use Rattle.table.specs.Mask.{centre, validMask, meets, persistentFor}
@@ -32,61 +35,77 @@ use Rattle.verdict.specs.Rules.{refuseIf, refuseAt, judge}
 abbrev pub maxElements : ℕ
 maxElements = 64
 
+abbrev pub maxRanks : ℕ
+maxRanks = 4
+
 abbrev pub element : Table → ℕ → ℕ
 element t k = getD (t .elements) k 0
+
+abbrev pub persistentAt : Table → ℕ → ℕ
+persistentAt t r = getD (t .persistents) r 0
 
 unfoldable pub masks : Table → List ℕ
 masks t = take (t .count) (t .elements)
 
 unfoldable pub persistents : Table → List ℕ
-persistents t = t .persistent ∷ []
+persistents t = take (t .ranks) (t .persistents)
 
 abbrev pub zeroTable : Table
-zeroTable = record { count = 0; elements = replicate maxElements 0; persistent = 0 }
+zeroTable = record { count = 0; elements = replicate maxElements 0; ranks = 0; persistents = replicate maxRanks 0 }
 
-unfoldable pub badCount : Table → Bool
-badCount t = not (leb 1 (t .count) && leb (t .count) maxElements)
+unfoldable pub badCount : ℕ → Bool
+badCount n = not (leb 1 n && leb n maxElements)
 
-unfoldable pub notRising : Table → ℕ → Bool
-notRising t k = leb 1 k && leb (element t k) (element t (k - 1))
+unfoldable pub badRanks : ℕ → ℕ → Bool
+badRanks least n = not (leb least n && leb n maxRanks)
+
+unfoldable pub notRising : List ℕ → ℕ → Bool
+notRising ms k = leb 1 k && leb (getD ms k 0) (getD ms (k - 1) 0)
+
+unfoldable pub badMask : List ℕ → ℕ → Bool
+badMask ms k = not (validMask (getD ms k 0)) || notRising ms k
 
 unfoldable pub badElement : Table → ℕ → Bool
-badElement t k = not (validMask (element t k)) || (bit (element t k) centre || notRising t k)
+badElement t k = bit (element t k) centre || badMask (t .elements) k
 
-unfoldable pub badPlace : Table → ℕ → Bool
-badPlace t k = cond (ltb k (t .count)) (badElement t k) (not (eqb (element t k) 0))
+unfoldable pub badPersistent : Table → ℕ → Bool
+badPersistent t r = badMask (t .persistents) r
 
-unfoldable pub badPersistent : Table → Bool
-badPersistent t = not (validMask (t .persistent))
+unfoldable pub badPlace : List ℕ → ℕ → (ℕ → Bool) → ℕ → Bool
+badPlace ms n bad k = cond (ltb k n) (bad k) (not (eqb (getD ms k 0) 0))
 
 unfoldable pub disjointFrom : Table → ℕ → Option ℕ
 disjointFrom t k = first (λ j. not (meets (element t k) (element t j))) k
 
-unfoldable pub missing : Table → ℕ → Bool
-missing t k = any (λ K. not (persistentFor K (element t k))) (persistents t)
+unfoldable pub missedBy : Table → ℕ → Option ℕ
+missedBy t k = first (λ r. not (persistentFor (persistentAt t r) (element t k))) (t .ranks)
+
+unfoldable pub persistentPlace : Table → ℕ → ℕ
+persistentPlace t r = cond (eqb (t .ranks) 1 && eqb r 0) (t .count + 1) (t .count + 2 + r)
 
 abbrev pub countRule : Table → Verdict
-countRule t = refuseIf (badCount t) 3 0
+countRule t = refuseIf (badCount (t .count)) 3 0
 
 abbrev pub placesRule : Table → Verdict
-placesRule t = refuseAt (first (badPlace t) maxElements) 4 suc
+placesRule t = refuseAt (first (badPlace (t .elements) (t .count) (badElement t)) maxElements) 4 suc
 
-abbrev pub elementRule : Table → ℕ → Verdict
-elementRule t k = refuseIf (badElement t k) 4 (suc k)
+abbrev pub ranksRule : Table → Verdict
+ranksRule t = refuseIf (badRanks 1 (t .ranks)) 18 (t .count + 1)
 
 abbrev pub persistentRule : Table → Verdict
-persistentRule t = refuseIf (badPersistent t) 6 (t .count + 1)
+persistentRule t = refuseAt (first (badPlace (t .persistents) (t .ranks) (badPersistent t)) maxRanks) 6 (persistentPlace t)
 
 abbrev pub meetRule : Table → Verdict
 meetRule t = refuseAt (first (λ k. isSome (disjointFrom t k)) (t .count)) 5 suc
 
 abbrev pub persistRule : Table → Verdict
-persistRule t = refuseAt (first (missing t) (t .count)) 7 suc
+persistRule t = refuseAt (first (λ k. isSome (missedBy t k)) (t .count)) 7 suc
 
 abbrev pub recordRules : Table → List Verdict
 recordRules t =
     countRule t
     ∷ placesRule t
+    ∷ ranksRule t
     ∷ persistentRule t
     ∷ meetRule t
     ∷ persistRule t

@@ -5,6 +5,7 @@ mod reading;
 mod record;
 mod writing;
 
+use mask::Kind;
 use mask::Search;
 use number::NumberRead;
 use verdict::Verdict;
@@ -17,15 +18,20 @@ ghost use Rattle.table.specs.Record.{recordVerdict};
 // The most elements of a table, and the element places of a record.
 pub const MAX_ELEMENTS: usize = 64;
 
-// The most bytes of a table file: a count takes one, a mask up to four.
-pub const MAX_FILE: usize = 1 + (MAX_ELEMENTS + 1) * number::MAX_GROUPS;
+// The most persistent elements of a table, and their places in a record.
+pub const MAX_RANKS: usize = 4;
 
-// The structuring elements and the persistent element (01's keeper), as masks of positions. Element places past the count are zero.
+// The most bytes of a table file: the leading 0 and the two counts take one each, a mask up to four.
+pub const MAX_FILE: usize = 3 + (MAX_ELEMENTS + MAX_RANKS) * number::MAX_GROUPS;
+
+// The structuring elements and the persistent elements (02's keepers), as masks of positions. `ranks` is the number of persistent elements; a rank
+// is the number of one of them, from 1. Places past the two counts are zero.
 #[repr(C)]
 pub struct Table {
     pub count: usize,
     pub elements: [u32; MAX_ELEMENTS],
-    pub persistent: u32,
+    pub ranks: usize,
+    pub persistents: [u32; MAX_RANKS],
 }
 
 // What reading a table file answers; the record is zero where it is refused.
@@ -34,20 +40,17 @@ pub struct TableRead {
     pub table: Table,
 }
 
-// The record, by the rules 3, 4, 6, 5, 7 in this order.
+// The record, by the rules 3, 4, 18, 6, 5, 7 in this order.
 pub fn check(table: Table) -> Verdict
     ensures { λ r. ⌜ r ≡ recordVerdict table ⌝ }
 {
     if record::is_bad_count(table.count) {
         return verdict::refused(verdict::ELEMENT_COUNT, 0);
     }
-    if let Search::Found(k) = record::first_bad_place(table) {
+    if let Search::Found(k) = record::first_bad(Kind::Element, &table.elements, table.count) {
         return verdict::refused(verdict::ELEMENT_RANGE, k + 1);
     }
-    if !mask::is_valid(table.persistent) {
-        return verdict::refused(verdict::PERSISTENT_RANGE, table.count + 1);
-    }
-    record::relations(table)
+    record::check_persistents(table)
 }
 
 // A table file, by the rules 1, 2 and the range rules number by number, then 8, 5, 7.
@@ -56,7 +59,13 @@ pub fn read(file: &[u8]) -> TableRead
 {
     match number::read_at(file, 0) {
         NumberRead::Refused(number) => reading::refused(number, 0),
-        NumberRead::Number(count, at) => reading::read_counted(file, count as usize, at),
+        NumberRead::Number(first, past) => {
+            if first == 0 {
+                reading::read_body(file, past, true)
+            } else {
+                reading::read_body(file, 0, false)
+            }
+        }
     }
 }
 

@@ -9,13 +9,19 @@ ghost use mathlib.Core.Bool.{not, _&&_};
 ghost use mathlib.Core.Path.{_≡_};
 ghost use Prim.Native.Nat.{ℕ, _<_, _^_};
 ghost use Rattle.seq.specs.Bits.{bit};
-ghost use Rattle.table.specs.Mask.{positionCount, validMask, sumInside, sum, partner, unpartnered};
-ghost use Rattle.table.specs.Code.Search.{found, badAfter};
+ghost use Rattle.table.specs.Mask.{positionCount, centre, validMask, sumInside, sum, partner, unpartnered};
+ghost use Rattle.table.specs.Code.Search.{found, leavesCentre, rangeNumber, badAfter};
 
 // What a search answers: the lowest that it looked for.
 pub(crate) enum Search {
     Found(usize),
     Nothing,
+}
+
+// Which of a table's masks: structuring elements leave the centre out, persistent elements need not.
+pub(crate) enum Kind {
+    Element,
+    Persistent,
 }
 
 const SIDE: usize = 5;
@@ -47,17 +53,37 @@ pub fn is_valid(mask: u32) -> bool
     1 <= mask && mask <= LARGEST_MASK
 }
 
-// Rule 4 on an element, after the element before it (0 where there is none).
-pub(crate) fn is_bad_after(before: u32, element: u32) -> bool
-    ensures { λ r. ⌜ r ≡ badAfter before element ⌝ }
+// The number of the rule on such a mask, 4 or 6.
+pub(crate) fn range_number(kind: Kind) -> u32
+    ensures { λ r. ⌜ r ≡ rangeNumber kind ⌝ }
 {
-    if !is_valid(element) {
+    match kind {
+        Kind::Element => verdict::ELEMENT_RANGE,
+        Kind::Persistent => verdict::PERSISTENT_RANGE,
+    }
+}
+
+// That rule on a mask, after the mask before it (0 where there is none).
+pub(crate) fn is_bad_after(kind: Kind, before: u32, mask: u32) -> bool
+    ensures { λ r. ⌜ r ≡ badAfter kind before mask ⌝ }
+{
+    if is_barred(kind, mask) {
         return true;
     }
-    if (element >> CENTRE) % 2 == 1 {
+    if !is_valid(mask) {
         return true;
     }
-    element <= before
+    mask <= before
+}
+
+// An element with the centre.
+fn is_barred(kind: Kind, mask: u32) -> bool
+    ensures { λ r. ⌜ r ≡ (leavesCentre kind && bit mask centre) ⌝ }
+{
+    match kind {
+        Kind::Element => (mask >> CENTRE) % 2 == 1,
+        Kind::Persistent => false,
+    }
 }
 
 // The lowest position of the persistent element that has no partner in the element.

@@ -1,33 +1,35 @@
 // The rules on a table record.
 use crate::MAX_ELEMENTS;
+use crate::MAX_RANKS;
 use crate::Table;
 use crate::mask;
+use crate::mask::Kind;
 use crate::mask::Search;
 use verdict::Verdict;
 ghost use mathlib.Core.Path.{_≡_};
-ghost use Prim.Native.Nat.{_<_, _^_};
-ghost use lib.ListN.{getD};
+ghost use Prim.Native.Nat.{ℕ, _≤_, _<_, _^_};
+ghost use lib.ListN.{length, getD};
 ghost use Rattle.seq.specs.Lists.{isSome};
 ghost use Rattle.seq.specs.Tab.{first};
 ghost use Rattle.table.specs.Mask.{positionCount};
-ghost use Rattle.table.specs.Record.{maxElements, badPlace, disjointFrom, missing, meetRule, persistRule};
-ghost use Rattle.table.specs.Code.Search.{found, badNumber, lowestBad, InRange};
-ghost use Rattle.verdict.specs.Rules.{orElse};
+ghost use Rattle.table.specs.Record.{maxElements, maxRanks, element, badCount, badRanks, badPlace, disjointFrom, missedBy, persistentPlace, meetRule, persistRule};
+ghost use Rattle.table.specs.Code.Search.{found, badOf, lowestBad, behindElements, InRange};
+ghost use Rattle.verdict.specs.Rules.{orElse, judge};
 
 // Rule 3.
 pub(crate) fn is_bad_count(count: usize) -> bool
-    ensures { λ r. ⌜ r ≡ badNumber count ⌝ }
+    ensures { λ r. ⌜ r ≡ badCount count ⌝ }
 {
     count < 1 || MAX_ELEMENTS < count
 }
 
-// Rule 4, over all places.
-pub(crate) fn first_bad_place(table: Table) -> Search
-    ensures { λ r. ⌜ found r ≡ lowestBad table ⌝ }
+// The lowest place that breaks its rule, 4 or 6: of these `count` hold masks of the kind, and the others are zero.
+pub(crate) fn first_bad(kind: Kind, masks: &[u32], count: usize) -> Search
+    ensures { λ r. ⌜ found r ≡ lowestBad kind (now (masks .entry)) count ⌝ }
 {
     let mut k = 0;
-    while k < MAX_ELEMENTS {
-        if is_bad_place(table, k) {
+    while k < masks.len() {
+        if is_bad_place(kind, masks, count, k) {
             return Search::Found(k);
         }
         k += 1;
@@ -35,21 +37,52 @@ pub(crate) fn first_bad_place(table: Table) -> Search
     Search::Nothing
 }
 
-fn is_bad_place(table: Table, k: usize) -> bool
-    requires { ⌜ k < maxElements ⌝ }
-    ensures { λ r. ⌜ r ≡ badPlace table k ⌝ }
+fn is_bad_place(kind: Kind, masks: &[u32], count: usize, k: usize) -> bool
+    requires { ⌜ k < length (now masks) ⌝ }
+    ensures { λ r. ⌜ r ≡ badPlace (now (masks .entry)) count (badOf kind (now (masks .entry))) k ⌝ }
 {
-    let element = table.elements[k];
-    if table.count <= k {
-        return element != 0;
+    if count <= k {
+        return masks[k] != 0;
     }
     if k == 0 {
-        return mask::is_bad_after(0, element);
+        return mask::is_bad_after(kind, 0, masks[k]);
     }
-    mask::is_bad_after(table.elements[k - 1], element)
+    mask::is_bad_after(kind, masks[k - 1], masks[k])
 }
 
-// Rules 5 and 7, of a record whose places and persistent element are in range.
+// Rules 18 and 6, then 5 and 7, of a record whose elements are in range.
+pub(crate) fn check_persistents(table: Table) -> Verdict
+    requires { ⌜ (table .count ≤ maxElements) × ((k : ℕ) → k < table .count → element table k < 2 ^ positionCount) ⌝ }
+    ensures { λ r. ⌜ r ≡ judge (behindElements table) ⌝ }
+{
+    if is_bad_ranks(1, table.ranks) {
+        return verdict::refused(verdict::RANK_COUNT, table.count + 1);
+    }
+    if let Search::Found(r) = first_bad(Kind::Persistent, &table.persistents, table.ranks) {
+        return verdict::refused(verdict::PERSISTENT_RANGE, persistent_place(table, r));
+    }
+    relations(table)
+}
+
+// Rule 18, where there are `least` or more.
+pub(crate) fn is_bad_ranks(least: usize, ranks: usize) -> bool
+    ensures { λ r. ⌜ r ≡ badRanks least ranks ⌝ }
+{
+    ranks < least || MAX_RANKS < ranks
+}
+
+// The only persistent element stands right behind the elements; several, and a record's places past them, stand behind their number.
+fn persistent_place(table: Table, r: usize) -> usize
+    requires { ⌜ (table .count ≤ maxElements) × (r < maxRanks) ⌝ }
+    ensures { λ place. ⌜ place ≡ persistentPlace table r ⌝ }
+{
+    if table.ranks == 1 && r == 0 {
+        return table.count + 1;
+    }
+    table.count + 2 + r
+}
+
+// Rules 5 and 7, of a record whose masks are in range.
 pub(crate) fn relations(table: Table) -> Verdict
     requires { ⌜ InRange table ⌝ }
     ensures { λ r. ⌜ r ≡ orElse (meetRule table) (persistRule table) ⌝ }
@@ -57,7 +90,7 @@ pub(crate) fn relations(table: Table) -> Verdict
     if let Search::Found(k) = first_disjoint(table) {
         return verdict::refused(verdict::ELEMENTS_DISJOINT, k + 1);
     }
-    if let Search::Found(k) = first_missing(table) {
+    if let Search::Found(k) = first_missed(table) {
         return verdict::refused(verdict::NOT_PERSISTENT, k + 1);
     }
     Verdict::Accepted
@@ -95,16 +128,32 @@ fn disjoint_from(table: Table, k: usize) -> Search
 }
 
 // Rule 7.
-fn first_missing(table: Table) -> Search
+fn first_missed(table: Table) -> Search
     requires { ⌜ InRange table ⌝ }
-    ensures { λ r. ⌜ found r ≡ first (missing table) (table .count) ⌝ }
+    ensures { λ r. ⌜ found r ≡ first (λ k. isSome (missedBy table k)) (table .count) ⌝ }
 {
     let mut k = 0;
     while k < table.count {
-        if let Search::Found(_) = mask::lowest_unpartnered(table.persistent, table.elements[k]) {
+        if let Search::Found(_) = missed_by(table, k) {
             return Search::Found(k);
         }
         k += 1;
+    }
+    Search::Nothing
+}
+
+// The lowest of the persistent elements that is not persistent for element k.
+fn missed_by(table: Table, k: usize) -> Search
+    requires { ⌜ (InRange table) × (k < table .count) ⌝ }
+    ensures { λ r. ⌜ found r ≡ missedBy table k ⌝ }
+{
+    let element = table.elements[k];
+    let mut r = 0;
+    while r < table.ranks {
+        if let Search::Found(_) = mask::lowest_unpartnered(table.persistents[r], element) {
+            return Search::Found(r);
+        }
+        r += 1;
     }
     Search::Nothing
 }

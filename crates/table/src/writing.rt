@@ -2,15 +2,12 @@
 use crate::Table;
 use crate::number;
 use verdict::Written;
-ghost use mathlib.Core.List.{map};
 ghost use mathlib.Core.Path.{_≡_};
 ghost use Prim.Native.Nat.{_+_, _*_, _≤_};
 ghost use lib.ListN.{length};
 ghost use lib.Seq.{sets};
-ghost use Rattle.seq.specs.Lists.{join};
-ghost use Rattle.table.specs.File.{tableBytes, writtenTable, tableOutput};
-ghost use Rattle.table.specs.Number.{numberBytes};
-ghost use Rattle.table.specs.Record.{maxElements, masks, recordVerdict};
+ghost use Rattle.table.specs.File.{ifSeveral, masksBytes, tableBytes, writtenTable, tableOutput};
+ghost use Rattle.table.specs.Record.{maxElements, maxRanks, recordVerdict};
 ghost use Rattle.verdict.specs.declared.Verdict.the-variants.{Accepted};
 ghost use Rattle.verdict.specs.Writer.{over};
 
@@ -28,44 +25,74 @@ pub(crate) fn write_checked(table: Table, out: &mut [u8]) -> Written
 }
 
 fn file_length(table: Table) -> usize
-    requires { ⌜ table .count ≤ maxElements ⌝ }
+    requires { ⌜ (table .count ≤ maxElements) × (table .ranks ≤ maxRanks) ⌝ }
     ensures { λ r. ⌜ r ≡ length (tableBytes table) ⌝ }
 {
-    let count = number::group_count(table.count as u32);
-    count + elements_length(table) + number::group_count(table.persistent)
+    let elements = table.elements;
+    let persistents = table.persistents;
+    let masks = masks_length(&elements[..table.count]) + masks_length(&persistents[..table.ranks]);
+    number_length(table, 0)
+        + number::group_count(table.count as u32)
+        + number_length(table, table.ranks as u32)
+        + masks
 }
 
-fn elements_length(table: Table) -> usize
-    requires { ⌜ table .count ≤ maxElements ⌝ }
-    ensures { λ r. ⌜ (r ≡ length (join (map numberBytes (masks table)))) × (r ≤ 4 * maxElements) ⌝ }
+// Of a number that stands in a file of several persistent elements only.
+fn number_length(table: Table, n: u32) -> usize
+    ensures { λ r. ⌜ (r ≡ length (ifSeveral table n)) × (r ≤ 4) ⌝ }
+{
+    if table.ranks == 1 {
+        return 0;
+    }
+    number::group_count(n)
+}
+
+fn masks_length(masks: &[u32]) -> usize
+    requires { ⌜ length (now masks) ≤ maxElements ⌝ }
+    ensures { λ r. ⌜ (r ≡ length (masksBytes (now (masks .entry)))) × (r ≤ 4 * maxElements) ⌝ }
 {
     let mut total = 0;
     let mut k = 0;
-    while k < table.count {
-        total += number::group_count(table.elements[k]);
+    while k < masks.len() {
+        total += number::group_count(masks[k]);
         k += 1;
     }
     total
 }
 
 fn put_table(table: Table, out: &mut [u8])
-    requires { ⌜ (table .count ≤ maxElements) × (length (tableBytes table) ≤ length (now out)) ⌝ }
+    requires { ⌜ (table .count ≤ maxElements) × (table .ranks ≤ maxRanks) × (length (tableBytes table) ≤ length (now out)) ⌝ }
     ensures { λ _. ⌜ now (out .exit) ≡ over (tableBytes table) (now (out .entry)) ⌝ }
 {
-    let elements_at = number::put_at(out, 0, table.count as u32);
-    let persistent_at = put_elements(table, out, elements_at);
-    number::put_at(out, persistent_at, table.persistent);
+    let elements = table.elements;
+    let persistents = table.persistents;
+    let count_at = put_number(table, out, 0, 0);
+    let elements_at = number::put_at(out, count_at, table.count as u32);
+    let ranks_at = put_masks(&elements[..table.count], out, elements_at);
+    let persistents_at = put_number(table, out, ranks_at, table.ranks as u32);
+    put_masks(&persistents[..table.ranks], out, persistents_at);
 }
 
-fn put_elements(table: Table, out: &mut [u8], at: usize) -> usize
-    requires { ⌜ (table .count ≤ maxElements) × (at + length (join (map numberBytes (masks table))) ≤ length (now out)) ⌝ }
-    ensures { λ r. ⌜ (r ≡ at + length (join (map numberBytes (masks table))))
-        × (now (out .exit) ≡ sets (now (out .entry)) at (join (map numberBytes (masks table)))) ⌝ }
+// A number that stands in a file of several persistent elements only.
+fn put_number(table: Table, out: &mut [u8], at: usize, n: u32) -> usize
+    requires { ⌜ at + length (ifSeveral table n) ≤ length (now out) ⌝ }
+    ensures { λ r. ⌜ (r ≡ at + length (ifSeveral table n)) × (now (out .exit) ≡ sets (now (out .entry)) at (ifSeveral table n)) ⌝ }
+{
+    if table.ranks == 1 {
+        return at;
+    }
+    number::put_at(out, at, n)
+}
+
+fn put_masks(masks: &[u32], out: &mut [u8], at: usize) -> usize
+    requires { ⌜ at + length (masksBytes (now masks)) ≤ length (now out) ⌝ }
+    ensures { λ r. ⌜ (r ≡ at + length (masksBytes (now (masks .entry))))
+        × (now (out .exit) ≡ sets (now (out .entry)) at (masksBytes (now (masks .entry)))) ⌝ }
 {
     let mut next = at;
     let mut k = 0;
-    while k < table.count {
-        next = number::put_at(out, next, table.elements[k]);
+    while k < masks.len() {
+        next = number::put_at(out, next, masks[k]);
         k += 1;
     }
     next

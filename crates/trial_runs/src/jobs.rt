@@ -85,8 +85,14 @@ fn differ_jobs(a: Job, b: Job) -> usize {
 fn differ_tables(a: Table, b: Table) -> usize {
     let one = a.elements;
     let other = b.elements;
-    let persistent = a.persistent as usize ^ b.persistent as usize;
-    (a.count ^ b.count) | persistent | differ_masks(one, other) as usize
+    let ranked = a.persistents;
+    let other_ranked = b.persistents;
+    let counts = (a.count ^ b.count) | (a.ranks ^ b.ranks);
+    counts | differ_ranks(ranked, other_ranked) as usize | differ_masks(one, other) as usize
+}
+
+fn differ_ranks(a: [u32; 4], b: [u32; 4]) -> u32 {
+    (a[0] ^ b[0]) | (a[1] ^ b[1]) | (a[2] ^ b[2]) | (a[3] ^ b[3])
 }
 
 fn differ_masks(a: [u32; 64], b: [u32; 64]) -> u32 {

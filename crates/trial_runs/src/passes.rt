@@ -31,14 +31,7 @@ pub(crate) fn pass(table: Table, size: Size, pixels: &[u8], next: &mut [u8]) {
 fn changes(pixels: &[u8], size: Size, table: Table, place: Place, other: u8) -> bool {
     for e in 0..64 {
         if e < table.count {
-            if fits(
-                pixels,
-                size,
-                table.elements[e],
-                table.persistent,
-                place,
-                other,
-            ) {
+            if fits(pixels, size, table, table.elements[e], place, other) {
                 return true;
             }
         }
@@ -46,10 +39,10 @@ fn changes(pixels: &[u8], size: Size, table: Table, place: Place, other: u8) -> 
     false
 }
 
-fn fits(pixels: &[u8], size: Size, element: u32, persistent: u32, place: Place, value: u8) -> bool {
+fn fits(pixels: &[u8], size: Size, table: Table, element: u32, place: Place, value: u8) -> bool {
     for n in 0..POSITIONS {
         if has(element, n) {
-            if !covered(pixels, size, persistent, nearest(size, place, n), value) {
+            if !covered(pixels, size, table, nearest(size, place, n), value) {
                 return false;
             }
         }
@@ -76,11 +69,22 @@ fn cut(moved: usize, side: usize) -> usize {
     std::num::wrapping_sub_usize(side, 1)
 }
 
-// Some translate of the persistent element (01: keeper) contains the pixel and has the value everywhere.
-fn covered(pixels: &[u8], size: Size, persistent: u32, place: Place, value: u8) -> bool {
+// Some translate of some persistent element (01 and 02: keeper) contains the pixel and has the value everywhere.
+fn covered(pixels: &[u8], size: Size, table: Table, place: Place, value: u8) -> bool {
     if bytes::at(pixels, grid::index(place.row, place.col, size.width)) != value {
         return false;
     }
+    for r in 0..4 {
+        if r < table.ranks {
+            if covered_by(pixels, size, table.persistents[r], place, value) {
+                return true;
+            }
+        }
+    }
+    false
+}
+
+fn covered_by(pixels: &[u8], size: Size, persistent: u32, place: Place, value: u8) -> bool {
     for b in 0..POSITIONS {
         if has(persistent, b) {
             if solid(pixels, size, persistent, place, b, value) {

@@ -54,7 +54,8 @@ pub(crate) fn empty() -> Job {
     let table = Table {
         count: 0,
         elements: [0u32; 64],
-        persistent: 0,
+        ranks: 0,
+        persistents: [0u32; 4],
     };
     Job {
         stage: 0,

@@ -48,7 +48,9 @@ pub data Case : Type 0 where
   plainInner : Table → ℕ → ℕ → List ℕ → ℕ → Case
 
 abbrev pub sameTable : Table → Table → Bool
-sameTable t u = eqb (t .count) (u .count) && (sameList (t .elements) (u .elements) && eqb (t .persistent) (u .persistent))
+sameTable t u =
+    (eqb (t .count) (u .count) && sameList (t .elements) (u .elements))
+    && (eqb (t .ranks) (u .ranks) && sameList (t .persistents) (u .persistents))
 
 abbrev pub refusedWith : Verdict → ℕ → ℕ → Bool
 refusedWith Accepted n p = false

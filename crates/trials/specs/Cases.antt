@@ -9,21 +9,18 @@ use lib.ListN.{replicate}
 use Rattle.history.specs.Computing.{computing}
 use Rattle.image.specs.File.{imageBytes}
 use Rattle.image.specs.Header.{header}
-use Rattle.operator.specs.Samples.{oneElement, ring, cross, dot, chessboard}
+use Rattle.operator.specs.Samples.{oneElement, ring, cross, cobbles, dot, chessboard}
 use Rattle.seq.specs.Lists.{all}
-use Rattle.table.specs.declared.Table.{Table}
+use Rattle.table.specs.Sample.{listed}
 use Rattle.trials.specs.Case.{Case, tableFile, fileRefused, recordRefused, rests, collects, notOpened, plainInner, meets}
-
-abbrev disjoint : Table
-disjoint = record { count = 2; elements = 2048 ∷ 8192 ∷ replicate 62 0; persistent = 12288 }
 
 abbrev pub cases : List Case
 cases =
     tableFile ring (0x01 ∷ 0xC0 ∷ 0xD3 ∷ 0x1C ∷ 0x80 ∷ 0xE0 ∷ 0x18 ∷ [])
     ∷ fileRefused [] 1 0
-    ∷ fileRefused (0x00 ∷ []) 3 0
+    ∷ fileRefused (0x00 ∷ []) 1 0
     ∷ fileRefused (0x81 ∷ 0x00 ∷ []) 2 0
-    ∷ recordRefused disjoint 5 2
+    ∷ recordRefused (listed (2048 ∷ 8192 ∷ []) (12288 ∷ [])) 5 2
     ∷ fileRefused (0x02 ∷ 0x80 ∷ 0x10 ∷ 0x80 ∷ 0x40 ∷ 0x80 ∷ 0x60 ∷ []) 5 2
     ∷ recordRefused (oneElement 469440 4096) 7 1
     ∷ fileRefused (0x01 ∷ 0xC0 ∷ 0xD3 ∷ 0x1C ∷ 0x80 ∷ 0x20 ∷ []) 7 1
@@ -38,10 +35,21 @@ cases =
     ∷ rests ring (header 5 5 ++ 0x00 ∷ 0x00 ∷ 0x21 ∷ 0x00 ∷ 0x00 ∷ []) (replicate 25 0) 1 0 1
     ∷ collects ring (header 5 5 ++ 0x00 ∷ 0x00 ∷ 0x21 ∷ 0x00 ∷ 0x00 ∷ []) (header 5 5 ++ replicate 5 0x00)
     ∷ collects ring (header 4 4 ++ 0x0F ∷ 0x4F ∷ 0x0F ∷ 0x0F ∷ []) (header 4 4 ++ 0x00 ∷ 0x40 ∷ 0x00 ∷ 0x00 ∷ [])
+    -- T-01: a leading 0 and several persistent elements; the 3 × 3 image that only both of them clean
+    ∷ fileRefused (0x00 ∷ 0x00 ∷ []) 3 0
+    ∷ tableFile cobbles (0x00 ∷ 0x01 ∷ 0x80 ∷ 0xD1 ∷ 0x08 ∷ 0x02 ∷ 0x80 ∷ 0x60 ∷ 0x80 ∷ 0xA0 ∷ 0x08 ∷ [])
+    ∷ fileRefused (0x00 ∷ 0x01 ∷ 0xC0 ∷ 0xD3 ∷ 0x1C ∷ 0x01 ∷ 0x80 ∷ 0xE0 ∷ 0x18 ∷ []) 18 2
+    ∷ recordRefused (listed (141440 ∷ []) (12288 ∷ 12288 ∷ [])) 6 4
+    ∷ recordRefused (listed (10368 ∷ 133248 ∷ []) (12288 ∷ 135168 ∷ [])) 7 1
+    ∷ rests cross (imageBytes 3 3 (dot 9 4)) (dot 9 4) 0 0 0
+    ∷ rests (oneElement 141440 135168) (imageBytes 3 3 (dot 9 4)) (dot 9 4) 0 0 0
+    ∷ rests cobbles (imageBytes 3 3 (dot 9 4)) (replicate 9 0) 1 0 1
     ∷ []
 
 pub cases-met : all meets cases ≡ true
-unfolding meets computing Rattle.table.specs.File.tableOf Rattle.table.specs.File.bytesLeft Rattle.table.specs.File.fileVerdict
+unfolding meets computing Rattle.table.specs.File.several Rattle.table.specs.File.body Rattle.table.specs.File.rankBytes
+    Rattle.table.specs.File.rankCount Rattle.table.specs.File.persistentBytes Rattle.table.specs.File.firstPlace Rattle.table.specs.File.numbers
+    Rattle.table.specs.File.tableOf Rattle.table.specs.File.bytesLeft Rattle.table.specs.File.fileVerdict
     Rattle.table.specs.File.readTable Rattle.table.specs.File.tableBytes Rattle.table.specs.File.tableVerdict Rattle.table.specs.File.writtenTable
     Rattle.table.specs.File.tableOutput Rattle.table.specs.Number.more Rattle.table.specs.Number.size Rattle.table.specs.Number.value
     Rattle.table.specs.Number.ends Rattle.table.specs.Number.tooLong Rattle.table.specs.Number.notFewest Rattle.table.specs.Number.groupCount

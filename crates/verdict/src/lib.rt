@@ -64,3 +64,5 @@ pub const NOT_COLLECTED: u32 = 15;
 pub const NOTHING_LOADED: u32 = 16;
 
 pub const NOT_STABLE: u32 = 17;
+
+pub const RANK_COUNT: u32 = 18;

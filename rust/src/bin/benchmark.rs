@@ -3,7 +3,7 @@
 use mask_cleaner::cases::{named_tables, random_table, Kind, Random};
 use mask_cleaner::fast::Filter;
 use mask_cleaner::library;
-use mask_cleaner::record::{JobRecord, TableRecord, PLACES};
+use mask_cleaner::record::{JobRecord, TableRecord, MAX_RANKS, PLACES};
 use mask_cleaner::reference::image::{file_of, Image};
 use mask_cleaner::reference::pass::one_pass;
 use mask_cleaner::reference::table::MAX_MASK;
@@ -192,9 +192,11 @@ fn print_check(plan: &Plan) {
     }
     let number = times.len();
     let random = median(times);
-    let dense = check_time(&dense_table());
-    println!("`mask_table_check`, accepted tables of 64 elements: {random:.1} microseconds (median of {number} random tables),");
-    println!("{dense:.1} (22 positions in each element, all 25 in the persistent one).");
+    let [one, four] = [1, MAX_RANKS].map(|ranks| check_time(&dense_table(ranks)));
+    println!("`mask_table_check`, accepted tables of 64 elements: {random:.1} microseconds (median of {number} random tables");
+    println!("of one to four persistent elements),");
+    println!("{one:.1} (22 positions in each element, all 25 in the persistent one),");
+    println!("{four:.1} (the same elements, four persistent ones of 24 or 25 positions).");
 }
 
 fn check_time(table: &TableRecord) -> f64 {
@@ -202,8 +204,9 @@ fn check_time(table: &TableRecord) -> f64 {
     median((0..101).map(|_| check()).collect())
 }
 
-/// 64 elements, each of all positions but the centre and two others; the persistent element has all positions.
-fn dense_table() -> TableRecord {
+/// 64 elements, each of all positions but the centre and two others. Of one to four persistent elements the last has all
+/// positions, the others all but one.
+fn dense_table(ranks: usize) -> TableRecord {
     let without_centre = MAX_MASK & !(1 << 12);
     let elements: Vec<u32> = (1..=without_centre)
         .rev()
@@ -211,5 +214,6 @@ fn dense_table() -> TableRecord {
         .take(PLACES)
         .collect();
     let rising: Vec<u32> = elements.into_iter().rev().collect();
-    TableRecord::new(&rising, MAX_MASK)
+    let persistents = [4, 2, 1, 0].map(|missing| MAX_MASK - missing);
+    TableRecord::new(&rising, &persistents[MAX_RANKS - ranks..])
 }

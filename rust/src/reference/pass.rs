@@ -46,8 +46,13 @@ fn nearest(image: &Image, place: Place) -> Place {
     }
 }
 
+/// Covered by any of the persistent elements.
+fn covered(image: &Image, persistents: &[Vec<Offset>], place: Place, v: u8) -> bool {
+    persistents.iter().any(|k| covered_by(image, k, place, v))
+}
+
 /// Some translate of the persistent element contains the place, lies wholly inside and has value v throughout.
-fn covered(image: &Image, persistent: &[Offset], place: Place, v: u8) -> bool {
+fn covered_by(image: &Image, persistent: &[Offset], place: Place, v: u8) -> bool {
     persistent.iter().any(|b| {
         let origin = place.minus(*b);
         persistent.iter().all(|k| {
@@ -60,20 +65,20 @@ fn covered(image: &Image, persistent: &[Offset], place: Place, v: u8) -> bool {
 /// The masks of a table as lists of offsets.
 struct Offsets {
     elements: Vec<Vec<Offset>>,
-    persistent: Vec<Offset>,
+    persistents: Vec<Vec<Offset>>,
 }
 
 impl Offsets {
     fn of(table: &TableRecord) -> Offsets {
         Offsets {
             elements: lists(&table.elements[..table.count]),
-            persistent: offsets(table.persistent),
+            persistents: lists(&table.persistents[..table.ranks]),
         }
     }
 }
 
-fn lists(elements: &[u32]) -> Vec<Vec<Offset>> {
-    elements.iter().map(|e| offsets(*e)).collect()
+fn lists(masks: &[u32]) -> Vec<Vec<Offset>> {
+    masks.iter().map(|mask| offsets(*mask)).collect()
 }
 
 /// Some element has all its offsets, taken at the place by the edge rule, where the condition holds.
@@ -95,7 +100,7 @@ pub fn one_pass(image: &Image, table: &TableRecord) -> Image {
     let masks = Offsets::of(table);
     map(image, |place| {
         let v = value(image, place);
-        let other = |q| covered(image, &masks.persistent, q, 1 - v);
+        let other = |q| covered(image, &masks.persistents, q, 1 - v);
         if some_element(image, &masks.elements, place, other) {
             1 - v
         } else {

@@ -1,6 +1,6 @@
 //! 01, "The table": masks, the check of a record, the file's reader and writer.
 
-use crate::record::{Reason, Refusal, TableRecord, PLACES};
+use crate::record::{Reason, Refusal, TableRecord, MAX_RANKS, PLACES};
 
 /// The number of the offset (0, 0).
 const CENTRE: u32 = 12;
@@ -51,28 +51,76 @@ pub fn offsets(mask: u32) -> Vec<Offset> {
 
 /// For each offset b of the persistent element there is an offset a of the element with b + a in the persistent element.
 pub fn is_persistent(persistent: u32, element: u32) -> bool {
-    let stays = |b: Offset, a: Offset| b.plus(a).is_some_and(|sum| sum.is_in(persistent));
+    let stays = |b: &Offset, a: &Offset| b.plus(*a).is_some_and(|sum| sum.is_in(persistent));
+    let element = offsets(element);
     offsets(persistent)
-        .into_iter()
-        .all(|b| offsets(element).into_iter().any(|a| stays(b, a)))
+        .iter()
+        .all(|b| element.iter().any(|a| stays(b, a)))
 }
 
-/// The record's rules: 3, 4, 6, 5, 7.
+/// The two lists of masks in a table, both rising.
+#[derive(Clone, Copy)]
+enum List {
+    Elements,
+    Persistents,
+}
+
+impl List {
+    /// The range rule of the list: 4 or 6.
+    fn rule(self) -> Reason {
+        match self {
+            List::Elements => Reason::Element,
+            List::Persistents => Reason::Persistent,
+        }
+    }
+
+    /// Whether a mask may follow `previous`, which is 0 for the first. Only a persistent element may have the centre.
+    fn may_follow(self, mask: u32, previous: u32) -> bool {
+        let in_range = (1..=MAX_MASK).contains(&mask);
+        let has_centre = mask >> CENTRE & 1 == 1;
+        let centre_fits = matches!(self, List::Persistents) || !has_centre;
+        in_range && centre_fits && mask > previous
+    }
+
+    /// The number, from 1, of the lowest place of a record with a bad mask: below the count one that may not follow the one
+    /// before, past it one that is not 0.
+    fn first_bad(self, places: &[u32], count: usize) -> Option<usize> {
+        let mut previous = 0;
+        for (i, mask) in places.iter().enumerate() {
+            let fits = if i < count {
+                self.may_follow(*mask, previous)
+            } else {
+                *mask == 0
+            };
+            if !fits {
+                return Some(i + 1);
+            }
+            previous = *mask;
+        }
+        None
+    }
+}
+
+/// The record's rules: 3, 4, 18, 6, 5, 7.
 pub fn check(table: &TableRecord) -> Result<(), Refusal> {
     check_count(table.count)?;
-    let mut previous = 0;
-    for place in 1..=PLACES {
-        let element = table.elements[place - 1];
-        if place <= table.count {
-            check_element(element, previous, place)?;
-        } else if element != 0 {
-            return Err(Refusal::at(Reason::Element, place));
-        }
-        previous = element;
+    if let Some(number) = List::Elements.first_bad(&table.elements, table.count) {
+        return Err(Refusal::at(Reason::Element, number));
     }
-    check_persistent(table.persistent, table.count)?;
+    check_ranks(table.ranks, 1, table.count + 1)?;
+    if let Some(rank) = List::Persistents.first_bad(&table.persistents, table.ranks) {
+        return Err(Refusal::at(Reason::Persistent, rank_place(table, rank)));
+    }
     check_shared(table)?;
     check_persistence(table)
+}
+
+/// The only persistent element of a table has its old place; all else comes after the place of the ranks.
+fn rank_place(table: &TableRecord, rank: usize) -> usize {
+    match (table.ranks, rank) {
+        (1, 1) => table.count + 1,
+        _ => table.count + 1 + rank,
+    }
 }
 
 fn check_count(count: usize) -> Result<(), Refusal> {
@@ -82,21 +130,12 @@ fn check_count(count: usize) -> Result<(), Refusal> {
     }
 }
 
-/// Rule 4 for an element; `previous` is the one before, or 0.
-fn check_element(element: u32, previous: u32, place: usize) -> Result<(), Refusal> {
-    let in_range = (1..=MAX_MASK).contains(&element);
-    let has_centre = element >> CENTRE & 1 == 1;
-    if in_range && !has_centre && element > previous {
+/// Rule 18: `least` is 1 in a record, 2 in a file.
+fn check_ranks(ranks: usize, least: usize, place: usize) -> Result<(), Refusal> {
+    if (least..=MAX_RANKS).contains(&ranks) {
         Ok(())
     } else {
-        Err(Refusal::at(Reason::Element, place))
-    }
-}
-
-fn check_persistent(persistent: u32, count: usize) -> Result<(), Refusal> {
-    match persistent {
-        1..=MAX_MASK => Ok(()),
-        _ => Err(Refusal::at(Reason::Persistent, count + 1)),
+        Err(Refusal::at(Reason::RankCount, place))
     }
 }
 
@@ -110,38 +149,84 @@ fn check_shared(table: &TableRecord) -> Result<(), Refusal> {
     Ok(())
 }
 
+/// Each persistent element must be persistent alone.
 fn check_persistence(table: &TableRecord) -> Result<(), Refusal> {
+    let persistents = &table.persistents[..table.ranks];
     for (i, element) in table.elements[..table.count].iter().enumerate() {
-        if !is_persistent(table.persistent, *element) {
+        if !persistents.iter().all(|k| is_persistent(*k, *element)) {
             return Err(Refusal::at(Reason::NotPersistent, i + 1));
         }
     }
     Ok(())
 }
 
-/// The file's rules: 1, 2 and the range rule number by number, then 8, 5, 7.
+/// The file's rules: 1, 2 and the range rule number by number, then 8, 5, 7. A leading 0 says that the persistent elements have
+/// a count of their own, of 2 to 4; without it there is one.
 pub fn read(file: &[u8]) -> Result<TableRecord, Refusal> {
-    let (count, mut rest) = read_number(file, 0)?;
-    let count = count as usize;
-    check_count(count)?;
-    let mut elements = Vec::new();
-    let mut previous = 0;
-    for place in 1..=count {
-        let (element, after) = read_number(rest, place)?;
-        check_element(element, previous, place)?;
-        elements.push(element);
-        previous = element;
-        rest = after;
+    let mut numbers = Numbers::new(file);
+    let mut count = numbers.next()?;
+    let several = count == 0;
+    if several {
+        numbers.place = 0;
+        count = numbers.next()?;
     }
-    let (persistent, rest) = read_number(rest, count + 1)?;
-    check_persistent(persistent, count)?;
-    if !rest.is_empty() {
-        return Err(Refusal::at(Reason::BytesAfter, count + 2));
+    check_count(count as usize)?;
+    let elements = numbers.masks(List::Elements, count)?;
+    let ranks = if several { numbers.ranks()? } else { 1 };
+    let persistents = numbers.masks(List::Persistents, ranks)?;
+    if !numbers.rest.is_empty() {
+        return Err(Refusal::at(Reason::BytesAfter, numbers.place));
     }
-    let table = TableRecord::new(&elements, persistent);
+    let table = TableRecord::new(&elements, &persistents);
     check_shared(&table)?;
     check_persistence(&table)?;
     Ok(table)
+}
+
+/// The numbers of a file, one after the other.
+struct Numbers<'a> {
+    rest: &'a [u8],
+    /// The place of the next number: how many there were since the element count, itself included.
+    place: usize,
+}
+
+impl<'a> Numbers<'a> {
+    fn new(file: &'a [u8]) -> Numbers<'a> {
+        Numbers {
+            rest: file,
+            place: 0,
+        }
+    }
+
+    /// The next number; 1 and 2.
+    fn next(&mut self) -> Result<u32, Refusal> {
+        let (number, rest) = read_number(self.rest, self.place)?;
+        self.rest = rest;
+        self.place += 1;
+        Ok(number)
+    }
+
+    /// The next number as the count of the persistent elements.
+    fn ranks(&mut self) -> Result<u32, Refusal> {
+        let place = self.place;
+        let ranks = self.next()?;
+        check_ranks(ranks as usize, 2, place)?;
+        Ok(ranks)
+    }
+
+    /// The next so many numbers as the masks of a list.
+    fn masks(&mut self, list: List, count: u32) -> Result<Vec<u32>, Refusal> {
+        let mut masks = Vec::new();
+        for _ in 0..count {
+            let place = self.place;
+            let mask = self.next()?;
+            if !list.may_follow(mask, masks.last().copied().unwrap_or(0)) {
+                return Err(Refusal::at(list.rule(), place));
+            }
+            masks.push(mask);
+        }
+        Ok(masks)
+    }
 }
 
 /// The number at the head of the bytes, and the bytes after it.
@@ -175,14 +260,17 @@ pub fn write(table: &TableRecord, out: &mut [u8]) -> Result<usize, Refusal> {
     Ok(file.len())
 }
 
-/// The numbers of a record in the file's form, the record accepted or not (its count at most 64).
+/// The numbers of a record in the file's form, the record accepted or not (its count at most 64, its ranks at most 4). One
+/// persistent element has neither the leading 0 nor a count.
 pub fn file_of(table: &TableRecord) -> Vec<u8> {
-    let mut file = groups(table.count as u32);
-    for element in &table.elements[..table.count] {
-        file.extend(groups(*element));
-    }
-    file.extend(groups(table.persistent));
-    file
+    let elements = table.elements[..table.count].to_vec();
+    let persistents = table.persistents[..table.ranks].to_vec();
+    let (count, ranks) = (table.count as u32, table.ranks as u32);
+    let numbers = match ranks {
+        1 => [vec![count], elements, persistents].concat(),
+        _ => [vec![0, count], elements, vec![ranks], persistents].concat(),
+    };
+    numbers.into_iter().flat_map(groups).collect()
 }
 
 /// A number in groups of seven bits, lowest first, as few as will do.

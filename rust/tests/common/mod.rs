@@ -3,12 +3,14 @@
 
 use mask_cleaner::cases::{random_image, random_table, Random};
 use mask_cleaner::model::{Answer, Call};
-use mask_cleaner::record::{JobRecord, Reason, Refusal, TableRecord};
+use mask_cleaner::record::{JobRecord, Reason, Refusal, TableRecord, MAX_RANKS, PLACES};
 use mask_cleaner::reference::image::file_of;
 use mask_cleaner::{library, reference};
 use std::collections::BTreeMap;
 use std::io::Write;
 use std::slice::ChunksExactMut;
+
+pub mod tables;
 
 /// Prints a line past the capture of the test runner.
 pub fn report(line: &str) {
@@ -165,12 +167,14 @@ impl Stock {
 
 fn damaged_table(mut table: TableRecord, random: &mut Random) -> TableRecord {
     let lowest = table.elements[0] & table.elements[0].wrapping_neg();
-    match random.below(6) {
+    match random.below(8) {
         0 => table.count = *random.choose(&[0, 65]),
-        1 => table.elements[random.below(64)] ^= 1 << random.below(32),
-        2 => table.persistent = 0,
-        3 => table.persistent ^= 1 << random.below(25),
-        4 => table.elements[0] = lowest,
+        1 => table.elements[random.below(PLACES)] ^= 1 << random.below(32),
+        2 => table.persistents[0] = 0,
+        3 => table.persistents[random.below(MAX_RANKS)] ^= 1 << random.below(25),
+        4 => table.ranks = *random.choose(&[0, 5]),
+        5 => table.ranks = 1 + random.below(MAX_RANKS),
+        6 => table.elements[0] = lowest,
         _ => table.elements[0] = 4096,
     }
     table

@@ -1,9 +1,10 @@
--- `read` meets its contract.
+-- `read` meets its contract: the first number tells the form of the file.
 -- Assumes nothing.
 use mathlib.Core.Path.{sym, _∙_}
 use borrow.Author.Needs.{needs}
+use borrow.Author.Tests.{eq-eqb, ne-eqb}
 use Rattle.table.proofs.Cursor.{rules-refused, rules-read}
-use Rattle.table.proofs.Files.{read-by, file-number}
+use Rattle.table.proofs.Files.{read-first, read-rest, file-form, body-by}
 use Rattle.table.proofs.read.Statement.{statement}
 use Rattle.table.proofs.read.Tie as tie
 
@@ -16,24 +17,42 @@ enum-known-number c = search needs
 refused-requires : tie.Need-refused-requires
 refused-requires c κs = search needs
 
-enum-known-count : tie.Need-enum-known-count
-enum-known-count c = search needs
+enum-known-first : tie.Need-enum-known-first
+enum-known-first c = search needs
 
-cast-read-counted : tie.Need-cast-read-counted
-cast-read-counted c = search needs
+read-body-requires : tie.Need-read-body-requires
+read-body-requires c κs =
+    let known = c .before .before in
+    let answered = known .before .before in
+    let w = rules-read _ 0 0 (sym (answered .read-at .ensures) ∙ known .first .given .1) in
+    let form = file-form _ (w .1) (eq-eqb _ _ (c .if1 .taken)) in
+    (w .2 ∙ body-by _ form, form)
 
-read-counted-requires : tie.Need-read-counted-requires
-read-counted-requires c κs =
-    let w = rules-read _ 0 0 (sym (c .before .before .before .read-at .ensures) ∙ c .before .count .given .1) in
-    record { counted = w .1; reached = w .2; accepted = w .0 }
+read-body-requires-2 : tie.Need-read-body-requires-2
+read-body-requires-2 c κs =
+    let known = c .before .before in
+    let answered = known .before .before in
+    let w = rules-read _ 0 0 (sym (answered .read-at .ensures) ∙ known .first .given .1) in
+    let form = file-form _ (w .1) (ne-eqb _ _ (c .if1 .left)) in
+    (body-by _ form, form)
 
 returns : tie.Need-returns
 returns c =
-    c .refused .ensures
-    ∙ read-by _ (file-number _ (rules-refused _ 0 0 (sym (c .before .before .before .before .read-at .ensures) ∙ c .before .before .number .given .1)))
+    let known = c .before .before in
+    let answered = known .before .before in
+    c .refused .ensures ∙ read-first _ (rules-refused _ 0 0 (sym (answered .read-at .ensures) ∙ known .number .given .1))
 
 returns-2 : tie.Need-returns-2
-returns-2 c = search needs
+returns-2 c =
+    let known = c .before .before .before in
+    let answered = known .before .before in
+    c .read-body .ensures ∙ read-rest _ (rules-read _ 0 0 (sym (answered .read-at .ensures) ∙ known .first .given .1) .0)
+
+returns-3 : tie.Need-returns-3
+returns-3 c =
+    let known = c .before .before .before in
+    let answered = known .before .before in
+    c .read-body2 .ensures ∙ read-rest _ (rules-read _ 0 0 (sym (answered .read-at .ensures) ∙ known .first .given .1) .0)
 
 pub read-spec : {M : Type 1} → statement M
 read-spec =
@@ -42,8 +61,9 @@ read-spec =
     read-at-requires
     enum-known-number
     refused-requires
-    enum-known-count
-    cast-read-counted
-    read-counted-requires
+    enum-known-first
+    read-body-requires
+    read-body-requires-2
     returns
-    returns-2)
+    returns-2
+    returns-3)

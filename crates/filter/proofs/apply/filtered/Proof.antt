@@ -9,7 +9,7 @@ use Rattle.image.proofs.RowBytes.{area-few}
 use Rattle.image.specs.Size.{maxPixels}
 use Rattle.table.specs.Record.{masks}
 use Rattle.filter.specs.Code.OpeningMap.{openMap}
-use Rattle.filter.proofs.PassCodeChecks.{ranged-count, ranged-valid, elements-part, map-part, map-length}
+use Rattle.filter.proofs.PassCodeChecks.{ranged-count, ranged-ranks, ranged-valid, elements-part, map-part, map-length}
 use Rattle.filter.proofs.apply.filtered.Statement.{statement}
 use Rattle.filter.proofs.apply.filtered.Tie as tie
 
@@ -39,12 +39,9 @@ slice-aggregate-open : tie.Need-slice-aggregate-open
 slice-aggregate-open c = search needs
 
 open-requires : tie.Need-open-requires
-open-requires c κs = let s = c .before .before .before .before .before in record {
-  image = s .pre .1;
-  narrow = s .pre .2;
-  low = s .pre .3;
-  room = omega (arith, area-le s);
-}
+open-requires c κs =
+    let s = c .before .before .before .before .before in
+    (ranged-ranks _ (s .pre .0), record { image = s .pre .1; narrow = s .pre .2; low = s .pre .3; room = omega (arith, area-le s) })
 
 array-share-prefix-elements : tie.Need-array-share-prefix-elements
 array-share-prefix-elements c = omega (arith, ranged-count _ (c .before .before .before .before .before .before .before .pre .0), c .before .before .before .before .places .ok)

@@ -27,8 +27,8 @@ slice-aggregate-open-in-3 c = search needs
 open-in-requires : tie.Need-open-in-requires
 open-in-requires c κs =
     let start = c .before .before .before .before .before .before .before .before .before in
-    let room = frame-room (start .pre) in
-    (start .pre .image, search needs, omega (arith, c .before .before .before .before .before .before .blank .ok), omega (arith, c .before .before .before .before .before .blank2 .ok), omega (arith, c .before .before .before .before .blank3 .ok))
+    let room = frame-room (start .pre .1) in
+    (start .pre .0, start .pre .1 .image, search needs, omega (arith, c .before .before .before .before .before .before .blank .ok), omega (arith, c .before .before .before .before .before .blank2 .ok), omega (arith, c .before .before .before .before .blank3 .ok))
 
 same-length : tie.Need-same-length
 same-length c = search needs

@@ -1,11 +1,27 @@
 -- `opening::open_in` meets its contract: the opening in the frame, taken out of it, is the opening map.
 -- Assumes nothing.
+use mathlib.Core.Path.{_≡_, sym}
+use native.Mathlib.Omega.{arith}
 use borrow.Author.Needs.{needs}
-use Rattle.table.specs.Record.{persistents}
+use lib.ListN.{length}
+use lib.Seq.{length-take-le}
+use Rattle.table.specs.Record.{maxRanks, persistents}
 use Rattle.filter.proofs.OpeningErosion.{masks-none}
 use Rattle.filter.proofs.OpeningMap.{opening-map}
 use Rattle.filter.proofs.opening.open_in.Statement.{statement}
 use Rattle.filter.proofs.opening.open_in.Tie as tie
+
+-- where the function began
+abbrev start : tie.After-frame → tie.Start
+start c = let entered = c .before .before .before in entered .before .before .before .before
+
+-- where the frame was drawn
+abbrev frames : tie.After-fill → tie.After-frame
+frames c = c .before .before .before .before
+
+-- a record's array has all its places
+places : (c : tie.Start) → length (c .args .table .persistents) ≡ maxRanks
+places c = search needs
 
 add-step : tie.Need-add-step
 add-step c = search needs
@@ -25,13 +41,16 @@ frame-requires c κs = search needs
 fill-requires : tie.Need-fill-requires
 fill-requires c κs = search needs
 
+array-share-prefix-persistents : tie.Need-array-share-prefix-persistents
+array-share-prefix-persistents c = omega (arith, places (start (frames (c .before .before .before))))
+
 slice-aggregate-open-each : tie.Need-slice-aggregate-open-each
-slice-aggregate-open-each c = search needs
+slice-aggregate-open-each c = sym (length-take-le _ _ (array-share-prefix-persistents (c .before)))
 
 open-each-requires : tie.Need-open-each-requires
 open-each-requires c κs =
     let lent = c .before .before .before in
-    (search needs, search needs, search needs, masks-none _ _ _ (lent .before .before .before .fill .ensures))
+    (search needs, search needs, search needs, masks-none _ _ _ (lent .before .before .before .before .fill .ensures))
 
 unframe-requires : tie.Need-unframe-requires
 unframe-requires c κs = search needs
@@ -55,11 +74,9 @@ returns c =
     let known = unframes .before .before .before in
     let opens = known .before .before .before .before in
     let lent = opens .before .before .before .before in
-    let fills = lent .before .before .before in
-    let frames = fills .before .before .before .before in
-    let entered = frames .before .before .before in
-    let start = entered .before .before .before .before in
-    opening-map _ _ _ _ (frames .frame .ensures) _ (start .pre .0 .wide) (start .pre .1) (opens .open-each .ensures) (unframes .unframe .ensures)
+    let framed = frames (lent .before .before .before .before) in
+    let begin = start framed in
+    opening-map _ _ _ _ (framed .frame .ensures) _ (begin .pre .1 .wide) (begin .pre .2) (opens .open-each .ensures) (unframes .unframe .ensures)
 
 pub open-in-spec : {M : Type 1} → statement M
 open-in-spec =
@@ -71,6 +88,7 @@ open-in-spec =
     sub-reach
     frame-requires
     fill-requires
+    array-share-prefix-persistents
     slice-aggregate-open-each
     open-each-requires
     unframe-requires

@@ -4,19 +4,18 @@ use mathlib.Core.Path.{_≡_, ap, _∙_}
 use Prim.Native.Nat.{_≤_, _-_}
 use borrow.Author.Needs.{needs}
 use lib.Dec.{ltb}
-use lib.ListN.{take}
+use lib.ListN.{length, take}
 use lib.Seq.{take-all}
 use Rattle.seq.specs.Lists.{any}
-use Rattle.table.specs.Record.{maxElements}
 use Rattle.job.proofs.Seen.{seen-more, seen-zero}
 use Rattle.job.proofs.sound.any_nonzero.Statement.{statement}
 use Rattle.job.proofs.sound.any_nonzero.Tie as tie
 
 abbrev Inv-loop : tie.InvT-loop
-Inv-loop elements seen₀ i₀ seen i = (i ≤ maxElements) × (ltb 0 seen ≡ any (ltb 0) (take i elements))
+Inv-loop masks seen₀ i₀ seen i = (i ≤ length masks) × (ltb 0 seen ≡ any (ltb 0) (take i masks))
 
 abbrev μ-loop : tie.MeasureT-loop
-μ-loop elements seen₀ i₀ seen i = maxElements - i
+μ-loop masks seen₀ i₀ seen i = length masks - i
 
 loop-holds : tie.Need-loop-holds Inv-loop μ-loop
 loop-holds c = search needs
@@ -24,8 +23,8 @@ loop-holds c = search needs
 mul-seen : tie.Need-mul-seen Inv-loop μ-loop
 mul-seen c = search needs
 
-array-read-seen : tie.Need-array-read-seen Inv-loop μ-loop
-array-read-seen c = search needs
+shared-slice-read-seen : tie.Need-shared-slice-read-seen Inv-loop μ-loop
+shared-slice-read-seen c = search needs
 
 add-i : tie.Need-add-i Inv-loop μ-loop
 add-i c = search needs
@@ -35,14 +34,13 @@ loop-less c = search needs
 
 loop-again : tie.Need-loop-again Inv-loop μ-loop
 loop-again c =
-    let loop = c .before .loop in
-    (search needs, seen-more 0 (c .before .before .args .t1) (loop .i) (loop .seen) (search needs) (loop .inv .1))
+    let loop = c .before .before .loop in
+    (search needs, seen-more 0 (c .before .before .before .args .masks .now) (loop .i) (loop .seen) (search needs) (loop .inv .1))
 
 returns : tie.Need-returns Inv-loop μ-loop
 returns c =
     let loop = c .before .loop in
-    let elements = c .before .before .args .t1 in
-    seen-zero elements (loop .seen) (loop .inv .1 ∙ ap (any (ltb 0)) (take-all (loop .i) elements (search needs)))
+    seen-zero (c .before .before .args .masks .now) (loop .seen) (loop .inv .1 ∙ ap (any (ltb 0)) (take-all _ _ (c .loop-test .left)))
 
 pub any-nonzero-spec : {M : Type 1} → statement M
 any-nonzero-spec =
@@ -52,7 +50,7 @@ any-nonzero-spec =
     μ-loop
     loop-holds
     mul-seen
-    array-read-seen
+    shared-slice-read-seen
     add-i
     loop-less
     loop-again

@@ -3,31 +3,31 @@
 use mathlib.Core.Bool.{not}
 use mathlib.Core.Path.{sym, ap, _∙_}
 use borrow.Author.Needs.{needs}
-use Rattle.seq.proofs.Bits.{bit-one, bit-none}
 use Rattle.table.specs.Code.Search.{badAfter}
 use Rattle.table.proofs.mask.is_bad_after.Statement.{statement}
 use Rattle.table.proofs.mask.is_bad_after.Tie as tie
 
-is-valid-requires : tie.Need-is-valid-requires
-is-valid-requires c κs = search needs
+is-barred-requires : tie.Need-is-barred-requires
+is-barred-requires c κs = search needs
 
 returns : tie.Need-returns
 unfolding badAfter
-returns c = simp (ap not (sym (c .before .is-valid .ensures)) ∙ c .if1 .taken)
+returns c = simp (sym (c .before .is-barred .ensures) ∙ c .if1 .taken)
 
-cast-if2 : tie.Need-cast-if2
-cast-if2 c = search needs
-
-shr-if2 : tie.Need-shr-if2
-shr-if2 c = search needs
+is-valid-requires : tie.Need-is-valid-requires
+is-valid-requires c κs = search needs
 
 returns-2 : tie.Need-returns-2
 unfolding badAfter
-returns-2 c = simp (ap not (sym (c .before .before .is-valid .ensures)) ∙ c .before .if1 .left, bit-one (c .before .before .before .args .element) 12 (c .if2 .taken))
+returns-2 c =
+    let barred = c .before .before in
+    simp (sym (barred .before .is-barred .ensures) ∙ barred .if1 .left, ap not (sym (c .before .is-valid .ensures)) ∙ c .if2 .taken)
 
 returns-3 : tie.Need-returns-3
 unfolding badAfter
-returns-3 c = simp (ap not (sym (c .before .before .is-valid .ensures)) ∙ c .before .if1 .left, bit-none (c .before .before .before .args .element) 12 (c .if2 .left))
+returns-3 c =
+    let barred = c .before .before in
+    simp (sym (barred .before .is-barred .ensures) ∙ barred .if1 .left, ap not (sym (c .before .is-valid .ensures)) ∙ c .if2 .left)
 
 pub is-bad-after-spec : {M : Type 1} → statement M
-is-bad-after-spec = tie.close (tie.spec is-valid-requires returns cast-if2 shr-if2 returns-2 returns-3)
+is-bad-after-spec = tie.close (tie.spec is-barred-requires returns is-valid-requires returns-2 returns-3)

@@ -1,74 +1,57 @@
--- `reading::read_counted` meets its contract.
+-- `reading::read_counted` meets its contract: the elements, then what stands behind them.
 -- Assumes nothing.
 use mathlib.Core.Path.{sym, _∙_}
 use borrow.Author.Needs.{needs}
-use Rattle.table.proofs.Files.{read-by, file-count, file-elements}
-use Rattle.table.proofs.Tables.{good-table}
-use Rattle.table.proofs.Verdicts.{count-le}
+use lib.ListN.{drop}
+use Rattle.table.specs.File.{elementsRules, fileParts}
+use Rattle.table.proofs.Files.{read-part, read-next}
+use Rattle.table.proofs.Parts.{elements-said, elements-read}
 use Rattle.table.proofs.reading.read_counted.Statement.{statement}
 use Rattle.table.proofs.reading.read_counted.Tie as tie
 
-is-bad-count-requires : tie.Need-is-bad-count-requires
-is-bad-count-requires c κs = search needs
+-- from the masks back to the start
+abbrev start : tie.After-read-masks → tie.Start
+start c = c .before .before
 
-refused-requires : tie.Need-refused-requires
-refused-requires c κs = search needs
-
-returns : tie.Need-returns
-returns c =
-    c .refused .ensures ∙ read-by _ (file-count _ (c .before .before .before .before .pre) (sym (c .before .before .is-bad-count .ensures) ∙ c .before .if1 .taken))
-
-read-elements-requires : tie.Need-read-elements-requires
-read-elements-requires c κs =
-    let start = c .before .before .before in
-    (start .pre .counted, count-le _ (sym (c .before .is-bad-count .ensures) ∙ c .if1 .left), start .pre .reached)
+read-masks-requires : tie.Need-read-masks-requires
+read-masks-requires c κs = search needs
 
 enum-known-verdict : tie.Need-enum-known-verdict
 enum-known-verdict c = search needs
 
-refused-requires-2 : tie.Need-refused-requires-2
-refused-requires-2 c κs = search needs
+refused-requires : tie.Need-refused-requires
+refused-requires c κs = search needs
 
 enum-told : tie.Need-enum-told
 enum-told c = search needs
 
-read-persistent-requires : tie.Need-read-persistent-requires
-read-persistent-requires c κs =
-    let start = c .before .before .before .before .before .before .before in
-    let got = c .before .before .before .read-elements .ensures in
-    record {
-      counted = start .pre .counted;
-      within = count-le _ (sym (c .before .before .before .before .before .is-bad-count .ensures) ∙ c .before .before .before .before .if1 .left);
-      stored = got .stored (c .enum-told .given .1);
-      reached = got .reached (c .enum-told .given .1);
-      placed = good-table _ (sym (got .said) ∙ c .enum-told .given .1);
-    }
+read-ranks-requires : tie.Need-read-ranks-requires
+read-ranks-requires c κs =
+    let masks = c .before .before .before in
+    elements-read (start masks .pre .0) (start masks .pre .1) (masks .read-masks .ensures) (c .enum-told .given .1)
+
+returns : tie.Need-returns
+returns c =
+    let known = c .before .before in
+    let masks = known .before .before .before in
+    c .refused .ensures
+    ∙ read-part _ (elementsRules _) (drop 3 (fileParts _)) (sym (elements-said (start masks .pre .0) (start masks .pre .1) (masks .read-masks .ensures)) ∙ known .verdict .given .1)
 
 returns-2 : tie.Need-returns-2
 returns-2 c =
-    let counted = c .before .before .before .before .before .before in
-    c .refused2 .ensures
-    ∙ read-by _ (file-elements _ (counted .before .before .before .pre) (sym (counted .before .is-bad-count .ensures) ∙ counted .if1 .left)
-    (sym (c .before .before .before .before .before .read-elements .ensures .said) ∙ c .before .before .verdict .given .1))
-
-returns-3 : tie.Need-returns-3
-returns-3 c =
-    let counted = c .before .before .before .before .before in
-    c .read-persistent .ensures
-    ∙ read-by _ (file-elements _ (counted .before .before .before .pre) (sym (counted .before .is-bad-count .ensures) ∙ counted .if1 .left)
-    (sym (c .before .before .before .before .read-elements .ensures .said) ∙ c .before .enum-told .given .1))
+    let told = c .before in
+    let masks = told .before .before .before in
+    c .read-ranks .ensures
+    ∙ read-next _ (elementsRules _) (drop 3 (fileParts _)) (sym (elements-said (start masks .pre .0) (start masks .pre .1) (masks .read-masks .ensures)) ∙ told .enum-told .given .1)
 
 pub read-counted-spec : {M : Type 1} → statement M
 read-counted-spec =
     tie.close
     (tie.spec
-    is-bad-count-requires
-    refused-requires
-    returns
-    read-elements-requires
+    read-masks-requires
     enum-known-verdict
-    refused-requires-2
+    refused-requires
     enum-told
-    read-persistent-requires
-    returns-2
-    returns-3)
+    read-ranks-requires
+    returns
+    returns-2)

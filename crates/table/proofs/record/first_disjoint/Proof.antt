@@ -6,7 +6,7 @@ use borrow.Author.Needs.{needs}
 use Rattle.seq.specs.Lists.{isSome}
 use Rattle.seq.proofs.Search.{Passed, passed-none, passed-more, passed-found, passed-all}
 use Rattle.table.specs.Record.{disjointFrom}
-use Rattle.table.proofs.Places.{place-lt, found-some, found-none}
+use Rattle.table.proofs.Places.{found-some, found-none}
 use Rattle.table.proofs.record.first_disjoint.Statement.{statement}
 use Rattle.table.proofs.record.first_disjoint.Tie as tie
 
@@ -20,15 +20,16 @@ loop-holds : tie.Need-loop-holds Inv-loop μ-loop
 loop-holds c = passed-none
 
 disjoint-from-requires : tie.Need-disjoint-from-requires Inv-loop μ-loop
-disjoint-from-requires c κs = (omega arith, place-lt _ (c .before .before .before .pre .placed) _ (omega arith))
+disjoint-from-requires c κs = (omega arith, c .before .before .before .pre .element-lt _ (omega arith))
 
 enum-told : tie.Need-enum-told Inv-loop μ-loop
 enum-told c = search needs
 
 returns : tie.Need-returns Inv-loop μ-loop
 returns c =
-    passed-found (c .before .before .before .before .before .loop .inv) (c .before .before .before .if1 .taken)
-    (found-some (c .before .before .disjoint-from .ensures) (c .enum-told .given .1))
+    let called = c .before .before in
+    let turn = called .before in
+    passed-found (turn .before .before .loop .inv) (turn .if1 .taken) (found-some (called .disjoint-from .ensures) (c .enum-told .given .1))
 
 enum-told-2 : tie.Need-enum-told-2 Inv-loop μ-loop
 enum-told-2 c = search needs
@@ -41,8 +42,9 @@ loop-less c = omega arith
 
 loop-again : tie.Need-loop-again Inv-loop μ-loop
 loop-again c =
-    passed-more (c .before .before .before .before .before .loop .inv) (c .before .before .before .if1 .taken)
-    (found-none (c .before .before .disjoint-from .ensures) (c .enum-told2 .given .1))
+    let called = c .before .before in
+    let turn = called .before in
+    passed-more (turn .before .before .loop .inv) (turn .if1 .taken) (found-none (called .disjoint-from .ensures) (c .enum-told2 .given .1))
 
 returns-2 : tie.Need-returns-2 Inv-loop μ-loop
 returns-2 c = passed-all (c .before .before .loop .inv) (c .if1 .left)

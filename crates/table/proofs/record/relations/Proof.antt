@@ -4,7 +4,7 @@ use mathlib.Core.Path.{sym, _∙_}
 use native.Mathlib.Omega.{arith}
 use borrow.Author.Needs.{needs}
 use Rattle.seq.specs.Lists.{isSome}
-use Rattle.table.specs.Record.{disjointFrom, missing}
+use Rattle.table.specs.Record.{disjointFrom, missedBy}
 use Rattle.table.proofs.Verdicts.{search-lt, search-refuses, search-accepts}
 use Rattle.table.proofs.record.relations.Statement.{statement}
 use Rattle.table.proofs.record.relations.Tie as tie
@@ -17,40 +17,45 @@ enum-known-k c = search needs
 
 add-refused : tie.Need-add-refused
 add-refused c =
-    let t = c .before .before .before .before .args .table in
-    omega (arith, search-lt (λ i. isSome (disjointFrom t i)) (t .count) (c .before .before .before .first-disjoint .ensures) (c .before .k .given .1))
+    let searched = c .before .before .before in
+    let t = searched .before .args .table in
+    omega (arith, search-lt (λ i. isSome (disjointFrom t i)) (t .count) (searched .first-disjoint .ensures) (c .before .k .given .1))
 
 refused-requires : tie.Need-refused-requires
 refused-requires c κs = search needs
 
 returns : tie.Need-returns
 returns c =
-    c .refused .ensures
-    ∙ sym (simp (search-refuses (c .before .before .before .before .first-disjoint .ensures) (c .before .before .k .given .1) 5))
+    let known = c .before .before in
+    c .refused .ensures ∙ sym (simp (search-refuses (known .before .before .first-disjoint .ensures) (known .k .given .1) 5))
 
 enum-told : tie.Need-enum-told
 enum-told c = search needs
 
-first-missing-requires : tie.Need-first-missing-requires
-first-missing-requires c κs = search needs
+first-missed-requires : tie.Need-first-missed-requires
+first-missed-requires c κs = search needs
 
 enum-known-k-2 : tie.Need-enum-known-k-2
 enum-known-k-2 c = search needs
 
 add-refused-2 : tie.Need-add-refused-2
 add-refused-2 c =
-    let t = c .before .before .before .before .before .before .before .args .table in
-    omega (arith, search-lt (missing t) (t .count) (c .before .before .before .first-missing .ensures) (c .before .k2 .given .1))
+    let searched = c .before .before .before in
+    let t = searched .before .before .before .before .args .table in
+    omega (arith, search-lt (λ i. isSome (missedBy t i)) (t .count) (searched .first-missed .ensures) (c .before .k2 .given .1))
 
 refused-requires-2 : tie.Need-refused-requires-2
 refused-requires-2 c κs = search needs
 
 returns-2 : tie.Need-returns-2
 returns-2 c =
+    let known = c .before .before in
+    let searched = known .before .before in
+    let told = searched .before in
     c .refused2 .ensures
     ∙ sym (simp (
-      search-accepts (c .before .before .before .before .before .before .before .first-disjoint .ensures) (c .before .before .before .before .before .enum-told .given .1) 5,
-      search-refuses (c .before .before .before .before .first-missing .ensures) (c .before .before .k2 .given .1) 7,
+      search-accepts (told .before .before .first-disjoint .ensures) (told .enum-told .given .1) 5,
+      search-refuses (searched .first-missed .ensures) (known .k2 .given .1) 7,
     ))
 
 enum-told-2 : tie.Need-enum-told-2
@@ -58,9 +63,11 @@ enum-told-2 c = search needs
 
 returns-3 : tie.Need-returns-3
 returns-3 c =
+    let searched = c .before .before in
+    let told = searched .before in
     simp (
-      search-accepts (c .before .before .before .before .before .first-disjoint .ensures) (c .before .before .before .enum-told .given .1) 5,
-      search-accepts (c .before .before .first-missing .ensures) (c .enum-told2 .given .1) 7,
+      search-accepts (told .before .before .first-disjoint .ensures) (told .enum-told .given .1) 5,
+      search-accepts (searched .first-missed .ensures) (c .enum-told2 .given .1) 7,
     )
 
 pub relations-spec : {M : Type 1} → statement M
@@ -73,7 +80,7 @@ relations-spec =
     refused-requires
     returns
     enum-told
-    first-missing-requires
+    first-missed-requires
     enum-known-k-2
     add-refused-2
     refused-requires-2

@@ -11,7 +11,7 @@ use Rattle.table.proofs.writing.write_checked.Statement.{statement}
 use Rattle.table.proofs.writing.write_checked.Tie as tie
 
 file-length-requires : tie.Need-file-length-requires
-file-length-requires c κs = accepted-table _ (c .before .pre) .count-most
+file-length-requires c κs = let w = accepted-table _ (c .before .pre) in (w .count-most, w .ranks-most)
 
 refusal-of-requires : tie.Need-refusal-of-requires
 refusal-of-requires c κs = tt
@@ -20,16 +20,18 @@ returns : tie.Need-returns
 returns c = rw (c .refusal-of .ensures) (short-output _ _ (c .before .before .before .before .pre) (omega arith))
 
 put-table-requires : tie.Need-put-table-requires
-put-table-requires c κs = (accepted-table _ (c .before .before .before .before .pre) .count-most, omega arith)
+put-table-requires c κs = let w = accepted-table _ (c .before .before .before .before .pre) in (w .count-most, w .ranks-most, omega arith)
 
 same-length : tie.Need-same-length
 same-length c = search needs
 
 returns-2 : tie.Need-returns-2
 returns-2 c =
-    let start = c .before .before .before .before .before .before .before in
-    let size = c .before .before .before .before .before .file-length .ensures in
-    let w = whole-output (start .args .table) (start .args .out .now) (start .pre) (omega (arith, c .before .before .before .before .if1)) in
+    let tested = c .before .before .before .before in
+    let measured = tested .before in
+    let start = measured .before .before in
+    let size = measured .file-length .ensures in
+    let w = whole-output (start .args .table) (start .args .out .now) (start .pre) (omega (arith, tested .if1)) in
     (ap (λ (n : ℕ). Length n) size ∙ w .0, c .before .before .put-table .ensures ∙ w .1)
 
 pub write-checked-spec : {M : Type 1} → statement M

@@ -6,10 +6,10 @@ use Rattle.trial_runs.proofs.passes.covered.Statement.{statement}
 use Rattle.trial_runs.proofs.passes.covered.Tie as tie
 
 abbrev Inv-loop : tie.InvT-loop
-Inv-loop pixels size persistent place value b₀ b = b ≤ 25
+Inv-loop pixels size place value table r₀ r = r ≤ 4
 
 abbrev μ-loop : tie.MeasureT-loop
-μ-loop pixels size persistent place value b₀ b = 25 - b
+μ-loop pixels size place value table r₀ r = 4 - r
 
 index-requires : tie.Need-index-requires Inv-loop μ-loop
 index-requires c κs = search needs
@@ -23,17 +23,20 @@ returns c = search needs
 loop-holds : tie.Need-loop-holds Inv-loop μ-loop
 loop-holds c = search needs
 
-has-requires : tie.Need-has-requires Inv-loop μ-loop
-has-requires c κs = search needs
+mul-covered-by : tie.Need-mul-covered-by Inv-loop μ-loop
+mul-covered-by c = search needs
 
-solid-requires : tie.Need-solid-requires Inv-loop μ-loop
-solid-requires c κs = search needs
+element-copy-out-covered-by : tie.Need-element-copy-out-covered-by Inv-loop μ-loop
+element-copy-out-covered-by c = search needs
+
+covered-by-requires : tie.Need-covered-by-requires Inv-loop μ-loop
+covered-by-requires c κs = search needs
 
 returns-2 : tie.Need-returns-2 Inv-loop μ-loop
 returns-2 c = search needs
 
-add-b : tie.Need-add-b Inv-loop μ-loop
-add-b c = search needs
+add-r : tie.Need-add-r Inv-loop μ-loop
+add-r c = search needs
 
 loop-less : tie.Need-loop-less Inv-loop μ-loop
 loop-less c = search needs
@@ -54,10 +57,11 @@ covered-spec =
     at-requires
     returns
     loop-holds
-    has-requires
-    solid-requires
+    mul-covered-by
+    element-copy-out-covered-by
+    covered-by-requires
     returns-2
-    add-b
+    add-r
     loop-less
     loop-again
     returns-3)

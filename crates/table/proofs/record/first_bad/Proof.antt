@@ -1,20 +1,21 @@
--- `record::first_bad_place` meets its contract: a search over the places.
+-- `record::first_bad` meets its contract: a search over the places.
 -- Assumes nothing.
-use Rattle.table.proofs.record.first_bad_place.Tie as tie
 use mathlib.Core.Path.{sym, _∙_}
 use Prim.Native.Nat.{_-_}
 use native.Mathlib.Omega.{arith}
 use borrow.Author.Needs.{needs}
+use lib.ListN.{length}
 use Rattle.seq.proofs.Search.{Passed, passed-none, passed-more, passed-found, passed-all}
-use Rattle.table.specs.Record.{maxElements, badPlace}
-use Rattle.table.specs.Code.Search.{lowestBad}
-use Rattle.table.proofs.record.first_bad_place.Statement.{statement}
+use Rattle.table.specs.Code.Search.{badOf, lowestBad}
+use Rattle.table.specs.Record.{badPlace}
+use Rattle.table.proofs.record.first_bad.Statement.{statement}
+use Rattle.table.proofs.record.first_bad.Tie as tie
 
 abbrev Inv-loop : tie.InvT-loop
-Inv-loop table k₀ k = Passed (badPlace table) maxElements k
+Inv-loop kind masks count k₀ k = Passed (badPlace masks count (badOf kind masks)) (length masks) k
 
 abbrev μ-loop : tie.MeasureT-loop
-μ-loop table k₀ k = maxElements - k
+μ-loop kind masks count k₀ k = length masks - k
 
 loop-holds : tie.Need-loop-holds Inv-loop μ-loop
 loop-holds c = passed-none
@@ -39,8 +40,8 @@ returns-2 : tie.Need-returns-2 Inv-loop μ-loop
 unfolding lowestBad
 returns-2 c = passed-all (c .before .loop .inv) (c .loop-test .left)
 
-pub first-bad-place-spec : {M : Type 1} → statement M
-first-bad-place-spec =
+pub first-bad-spec : {M : Type 1} → statement M
+first-bad-spec =
     tie.close
     (tie.spec
     Inv-loop
