@@ -1,4 +1,4 @@
--- How the opening map is computed (the module `opening`): the image is copied into a frame, each translate of the persistent
+-- How the opening map is computed (the module `opening`): the image is copied into a frame, each translate of each persistent
 -- element in the framed image is judged once, and its colour is spread over its pixels.
 --
 --     0 0 0 0 0 0 0 0 0 0 0       a code has bit v set for the value v: 1 for white, 2 for black, 0 outside the image
