@@ -58,7 +58,7 @@ pub fn read(file: &[u8]) -> TableRead
     ensures { λ r. ⌜ r ≡ readTable (now (file .entry)) ⌝ }
 {
     match number::read_at(file, 0) {
-        NumberRead::Refused(number) => reading::refused(number, 0),
+        NumberRead::Refused(number) => reading::refused_at(number, 0),
         NumberRead::Number(first, past) => {
             if first == 0 {
                 reading::read_body(file, past, true)

@@ -8,6 +8,7 @@ use crate::mask::Kind;
 use crate::number;
 use crate::number::NumberRead;
 use crate::record;
+use verdict::Refusal;
 use verdict::Verdict;
 ghost use Rattle.verdict.specs.declared.Verdict.the-variants as the-verdict;
 ghost use mathlib.Core.Path.{_≡_};
@@ -27,11 +28,11 @@ struct Masks {
 }
 
 // A refused answer: all else is zero.
-pub(crate) fn refused(number: u32, place: usize) -> TableRead
-    ensures { λ r. ⌜ r ≡ readAs (the-verdict.Refused (refusal number place)) zeroTable ⌝ }
+pub(crate) fn refused(refusal: Refusal) -> TableRead
+    ensures { λ r. ⌜ r ≡ readAs (the-verdict.Refused refusal) zeroTable ⌝ }
 {
     TableRead {
-        verdict: verdict::refused(number, place),
+        verdict: Verdict::Refused(refusal),
         table: Table {
             count: 0,
             elements: [0; MAX_ELEMENTS],
@@ -41,16 +42,23 @@ pub(crate) fn refused(number: u32, place: usize) -> TableRead
     }
 }
 
+// The same, by number and place.
+pub(crate) fn refused_at(number: u32, place: usize) -> TableRead
+    ensures { λ r. ⌜ r ≡ readAs (the-verdict.Refused (refusal number place)) zeroTable ⌝ }
+{
+    refused(verdict::refusal_of(number, place))
+}
+
 // The file from its element count on; `more` where it starts with 0, and so has several persistent elements.
 pub(crate) fn read_body(file: &[u8], at: usize, more: bool) -> TableRead
     requires { ⌜ (drop at (now file) ≡ body (now file)) × (more ≡ several (now file)) ⌝ }
     ensures { λ r. ⌜ r ≡ readFrom 1 (now (file .entry)) ⌝ }
 {
     match number::read_at(file, at) {
-        NumberRead::Refused(number) => refused(number, 0),
+        NumberRead::Refused(number) => refused_at(number, 0),
         NumberRead::Number(count, past) => {
             if record::is_bad_count(count as usize) {
-                return refused(verdict::ELEMENT_COUNT, 0);
+                return refused_at(verdict::ELEMENT_COUNT, 0);
             }
             read_counted(file, count as usize, past, more)
         }
@@ -67,7 +75,7 @@ fn read_counted(file: &[u8], count: usize, at: usize, more: bool) -> TableRead
     let elements = got.masks;
     let next = got.at;
     match verdict {
-        Verdict::Refused(r) => refused(r.number, r.place),
+        Verdict::Refused(r) => refused(r),
         Verdict::Accepted => read_ranks(file, count, elements, next, more),
     }
 }
@@ -127,10 +135,10 @@ fn read_ranks(
         return read_persistents(file, count, elements, 1, at, count + 1);
     }
     match number::read_at(file, at) {
-        NumberRead::Refused(number) => refused(number, count + 1),
+        NumberRead::Refused(number) => refused_at(number, count + 1),
         NumberRead::Number(ranks, past) => {
             if record::is_bad_ranks(2, ranks as usize) {
-                return refused(verdict::RANK_COUNT, count + 1);
+                return refused_at(verdict::RANK_COUNT, count + 1);
             }
             read_persistents(file, count, elements, ranks as usize, past, count + 2)
         }
@@ -154,10 +162,10 @@ fn read_persistents(
     let masks = got.masks;
     let next = got.at;
     match verdict {
-        Verdict::Refused(r) => refused(r.number, r.place),
+        Verdict::Refused(r) => refused(r),
         Verdict::Accepted => {
             if next < file.len() {
-                return refused(verdict::BYTES_LEFT, place + ranks);
+                return refused_at(verdict::BYTES_LEFT, place + ranks);
             }
             related(Table {
                 count,
@@ -182,7 +190,7 @@ fn related(table: Table) -> TableRead
     ensures { λ r. ⌜ r ≡ readAs (orElse (meetRule table) (persistRule table)) table ⌝ }
 {
     match record::relations(table) {
-        Verdict::Refused(r) => refused(r.number, r.place),
+        Verdict::Refused(r) => refused(r),
         Verdict::Accepted => TableRead {
             verdict: Verdict::Accepted,
             table,

@@ -14,8 +14,8 @@ read-at-requires c κs = search needs
 enum-known-number : tie.Need-enum-known-number
 enum-known-number c = search needs
 
-refused-requires : tie.Need-refused-requires
-refused-requires c κs = search needs
+refused-at-requires : tie.Need-refused-at-requires
+refused-at-requires c κs = search needs
 
 enum-known-first : tie.Need-enum-known-first
 enum-known-first c = search needs
@@ -40,7 +40,7 @@ returns : tie.Need-returns
 returns c =
     let known = c .before .before in
     let answered = known .before .before in
-    c .refused .ensures ∙ read-first _ (rules-refused _ 0 0 (sym (answered .read-at .ensures) ∙ known .number .given .1))
+    c .refused-at .ensures ∙ read-first _ (rules-refused _ 0 0 (sym (answered .read-at .ensures) ∙ known .number .given .1))
 
 returns-2 : tie.Need-returns-2
 returns-2 c =
@@ -60,7 +60,7 @@ read-spec =
     (tie.spec
     read-at-requires
     enum-known-number
-    refused-requires
+    refused-at-requires
     enum-known-first
     read-body-requires
     read-body-requires-2

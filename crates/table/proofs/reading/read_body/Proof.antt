@@ -20,8 +20,8 @@ read-at-requires c κs = search needs
 enum-known-number : tie.Need-enum-known-number
 enum-known-number c = search needs
 
-refused-requires : tie.Need-refused-requires
-refused-requires c κs = search needs
+refused-at-requires : tie.Need-refused-at-requires
+refused-at-requires c κs = search needs
 
 enum-known-count : tie.Need-enum-known-count
 enum-known-count c = search needs
@@ -32,15 +32,15 @@ cast-is-bad-count c = search needs
 is-bad-count-requires : tie.Need-is-bad-count-requires
 is-bad-count-requires c κs = search needs
 
-refused-requires-2 : tie.Need-refused-requires-2
-refused-requires-2 c κs = search needs
+refused-at-requires-2 : tie.Need-refused-at-requires-2
+refused-at-requires-2 c κs = search needs
 
 returns : tie.Need-returns
 returns c =
     let judged = c .before .before in
     let known = judged .before .before in
     let answered = known .before .before in
-    c .refused2 .ensures
+    c .refused-at2 .ensures
     ∙ read-part _ (countRules _) (drop 2 (fileParts _))
     (count-said _ _ (start answered .pre .0) (sym (answered .read-at .ensures) ∙ known .count .given .1) (sym (judged .is-bad-count .ensures) ∙ c .before .if1 .taken))
 
@@ -60,7 +60,7 @@ returns-2 : tie.Need-returns-2
 returns-2 c =
     let known = c .before .before in
     let answered = known .before .before in
-    c .refused .ensures
+    c .refused-at .ensures
     ∙ read-part _ (countRules _) (drop 2 (fileParts _)) (count-number _ _ (start answered .pre .0) (sym (answered .read-at .ensures) ∙ known .number .given .1))
 
 returns-3 : tie.Need-returns-3
@@ -78,11 +78,11 @@ read-body-spec =
     (tie.spec
     read-at-requires
     enum-known-number
-    refused-requires
+    refused-at-requires
     enum-known-count
     cast-is-bad-count
     is-bad-count-requires
-    refused-requires-2
+    refused-at-requires-2
     returns
     cast-read-counted
     read-counted-requires

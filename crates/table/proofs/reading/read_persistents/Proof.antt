@@ -44,18 +44,18 @@ refused-requires c κs = search needs
 enum-told : tie.Need-enum-told
 enum-told c = search needs
 
-add-refused : tie.Need-add-refused
-add-refused c = let w = start (got (c .before)) .pre in omega (arith, place-le w, w .few)
+add-refused-at : tie.Need-add-refused-at
+add-refused-at c = let w = start (got (c .before)) .pre in omega (arith, place-le w, w .few)
 
-refused-requires-2 : tie.Need-refused-requires-2
-refused-requires-2 c κs = search needs
+refused-at-requires : tie.Need-refused-at-requires
+refused-at-requires c κs = search needs
 
 returns : tie.Need-returns
 returns c =
     let told = c .before .before in
     let w = start (got told) .pre in
     let f = start (got told) .args .file .now in
-    c .refused2 .ensures
+    c .refused-at .ensures
     ∙ ap₂ (λ (p n : ℕ). readAs (Refused (refusal 8 (p + n))) (tableOf f)) (w .placed) (w .ranked)
     ∙ read-part f (lastRules f) [] (last-bytes f (got told .read-masks .result .at) (behind told) (c .before .if1 .taken))
     ∙ read-next f (persistentsRules f) (drop 5 (fileParts f)) (accepted told)
@@ -95,8 +95,8 @@ read-persistents-spec =
     enum-known-verdict
     refused-requires
     enum-told
-    add-refused
-    refused-requires-2
+    add-refused-at
+    refused-at-requires
     returns
     first-ranks-requires
     related-requires

@@ -32,11 +32,11 @@ read-at-requires c κs = search needs
 enum-known-number : tie.Need-enum-known-number
 enum-known-number c = search needs
 
-add-refused : tie.Need-add-refused
-add-refused c = search needs
+add-refused-at : tie.Need-add-refused-at
+add-refused-at c = search needs
 
-refused-requires : tie.Need-refused-requires
-refused-requires c κs = search needs
+refused-at-requires : tie.Need-refused-at-requires
+refused-at-requires c κs = search needs
 
 enum-known-ranks : tie.Need-enum-known-ranks
 enum-known-ranks c = search needs
@@ -47,11 +47,11 @@ cast-is-bad-ranks c = search needs
 is-bad-ranks-requires : tie.Need-is-bad-ranks-requires
 is-bad-ranks-requires c κs = search needs
 
-add-refused-2 : tie.Need-add-refused-2
-add-refused-2 c = search needs
+add-refused-at-2 : tie.Need-add-refused-at-2
+add-refused-at-2 c = search needs
 
-refused-requires-2 : tie.Need-refused-requires-2
-refused-requires-2 c κs = search needs
+refused-at-requires-2 : tie.Need-refused-at-requires-2
+refused-at-requires-2 c κs = search needs
 
 returns-2 : tie.Need-returns-2
 returns-2 c =
@@ -59,7 +59,7 @@ returns-2 c =
     let known = judged .before .before in
     let answered = known .before .before in
     let form = several answered in
-    c .refused2 .ensures
+    c .refused-at2 .ensures
     ∙ read-part _ (ranksRules _) (drop 4 (fileParts _))
     (ranks-said (form .before .before .pre) (not-false _ (form .if1 .left)) (sym (answered .read-at .ensures) ∙ known .ranks .given .1)
     (sym (judged .is-bad-ranks .ensures) ∙ c .before .if2 .taken))
@@ -84,7 +84,7 @@ returns-3 c =
     let known = c .before .before in
     let answered = known .before .before in
     let form = several answered in
-    c .refused .ensures
+    c .refused-at .ensures
     ∙ read-part _ (ranksRules _) (drop 4 (fileParts _))
     (ranks-number (form .before .before .pre) (not-false _ (form .if1 .left)) (sym (answered .read-at .ensures) ∙ known .number .given .1))
 
@@ -108,13 +108,13 @@ read-ranks-spec =
     returns
     read-at-requires
     enum-known-number
-    add-refused
-    refused-requires
+    add-refused-at
+    refused-at-requires
     enum-known-ranks
     cast-is-bad-ranks
     is-bad-ranks-requires
-    add-refused-2
-    refused-requires-2
+    add-refused-at-2
+    refused-at-requires-2
     returns-2
     cast-read-persistents
     add-read-persistents-2
