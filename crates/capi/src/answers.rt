@@ -3,19 +3,24 @@ use crate::Checked;
 use crate::FiguresAnswer;
 use crate::FileLength;
 use crate::ImageSize;
+use crate::Part;
 use crate::Progress;
 use crate::TableAnswer;
 use history::Figured;
 use history::Passed;
 use image::ImageRead;
+use table::Table;
 use table::TableRead;
+use verdict::Refusal;
 use verdict::Verdict;
 use verdict::Written;
 ghost use mathlib.Core.Path.{_≡_};
+ghost use Rattle.capi.specs.Answers as the;
 ghost use Rattle.capi.specs.Answers.{ofVerdict, ofTableRead, ofWritten, ofImageRead, ofPassed, ofFigured};
+ghost use Rattle.verdict.specs.Answers as verdicts;
 
 // The number of an answer that refuses nothing.
-pub(crate) const ACCEPTED: u32 = 0;
+const ACCEPTED: u32 = 0;
 
 const CHANGED: u32 = 0;
 
@@ -24,16 +29,7 @@ const STABLE: u32 = 1;
 pub(crate) fn of_verdict(verdict: Verdict) -> Checked
     ensures { λ r. ⌜ r ≡ ofVerdict verdict ⌝ }
 {
-    match verdict {
-        Verdict::Accepted => Checked {
-            number: ACCEPTED,
-            place: 0,
-        },
-        Verdict::Refused(refusal) => Checked {
-            number: refusal.number,
-            place: refusal.place,
-        },
-    }
+    checked(said(verdict))
 }
 
 pub(crate) fn of_table_read(read: TableRead) -> TableAnswer
@@ -41,28 +37,15 @@ pub(crate) fn of_table_read(read: TableRead) -> TableAnswer
 {
     let verdict = read.verdict;
     let table = read.table;
-    let checked = of_verdict(verdict);
-    TableAnswer {
-        number: checked.number,
-        place: checked.place,
-        table,
-    }
+    table_answer(said(verdict), table)
 }
 
 pub(crate) fn of_written(written: Written) -> FileLength
     ensures { λ r. ⌜ r ≡ ofWritten written ⌝ }
 {
     match written {
-        Written::Length(bytes) => FileLength {
-            number: ACCEPTED,
-            place: 0,
-            length: bytes,
-        },
-        Written::Refused(refusal) => FileLength {
-            number: refusal.number,
-            place: refusal.place,
-            length: 0,
-        },
+        Written::Length(bytes) => file_length(said(Verdict::Accepted), bytes),
+        Written::Refused(refusal) => file_length(refusal, 0),
     }
 }
 
@@ -70,18 +53,8 @@ pub(crate) fn of_image_read(read: ImageRead) -> ImageSize
     ensures { λ r. ⌜ r ≡ ofImageRead read ⌝ }
 {
     match read {
-        ImageRead::Size { width, height } => ImageSize {
-            number: ACCEPTED,
-            place: 0,
-            width,
-            height,
-        },
-        ImageRead::Refused(refusal) => ImageSize {
-            number: refusal.number,
-            place: refusal.place,
-            width: 0,
-            height: 0,
-        },
+        ImageRead::Size { width, height } => image_size(said(Verdict::Accepted), width, height),
+        ImageRead::Refused(refusal) => image_size(refusal, 0, 0),
     }
 }
 
@@ -89,21 +62,9 @@ pub(crate) fn of_passed(passed: Passed) -> Progress
     ensures { λ r. ⌜ r ≡ ofPassed passed ⌝ }
 {
     match passed {
-        Passed::Changed => Progress {
-            number: ACCEPTED,
-            place: 0,
-            stable: CHANGED,
-        },
-        Passed::Stable => Progress {
-            number: ACCEPTED,
-            place: 0,
-            stable: STABLE,
-        },
-        Passed::Refused(refusal) => Progress {
-            number: refusal.number,
-            place: refusal.place,
-            stable: CHANGED,
-        },
+        Passed::Changed => progress(said(Verdict::Accepted), CHANGED),
+        Passed::Stable => progress(said(Verdict::Accepted), STABLE),
+        Passed::Refused(refusal) => progress(refusal, CHANGED),
     }
 }
 
@@ -111,17 +72,91 @@ pub(crate) fn of_figured(figured: Figured) -> FiguresAnswer
     ensures { λ r. ⌜ r ≡ ofFigured figured ⌝ }
 {
     match figured {
-        Figured::Figures { balance, cover } => FiguresAnswer {
-            number: ACCEPTED,
-            place: 0,
-            balance,
-            cover,
-        },
-        Figured::Refused(refusal) => FiguresAnswer {
-            number: refusal.number,
-            place: refusal.place,
-            balance: 0,
-            cover: 0,
-        },
+        Figured::Figures { balance, cover } => {
+            figures_answer(said(Verdict::Accepted), balance, cover)
+        }
+        Figured::Refused(refusal) => figures_answer(refusal, 0, 0),
+    }
+}
+
+// What every answer starts with: the refusal, or zeros.
+pub(crate) fn said(verdict: Verdict) -> Refusal
+    ensures { λ r. ⌜ r ≡ verdicts.said verdict ⌝ }
+{
+    match verdict {
+        Verdict::Accepted => verdict::refusal_of(ACCEPTED, 0),
+        Verdict::Refused(refusal) => refusal,
+    }
+}
+
+fn checked(said: Refusal) -> Checked
+    ensures { λ r. ⌜ r ≡ the.checked said ⌝ }
+{
+    Checked {
+        number: said.number,
+        place: said.place,
+    }
+}
+
+fn table_answer(said: Refusal, table: Table) -> TableAnswer
+    ensures { λ r. ⌜ r ≡ the.tableAnswer said table ⌝ }
+{
+    TableAnswer {
+        number: said.number,
+        place: said.place,
+        table,
+    }
+}
+
+fn file_length(said: Refusal, length: usize) -> FileLength
+    ensures { λ r. ⌜ r ≡ the.fileLength said length ⌝ }
+{
+    FileLength {
+        number: said.number,
+        place: said.place,
+        length,
+    }
+}
+
+fn image_size(said: Refusal, width: usize, height: usize) -> ImageSize
+    ensures { λ r. ⌜ r ≡ the.imageSize said width height ⌝ }
+{
+    ImageSize {
+        number: said.number,
+        place: said.place,
+        width,
+        height,
+    }
+}
+
+fn progress(said: Refusal, stable: u32) -> Progress
+    ensures { λ r. ⌜ r ≡ the.progress said stable ⌝ }
+{
+    Progress {
+        number: said.number,
+        place: said.place,
+        stable,
+    }
+}
+
+pub(crate) fn part(said: Refusal, area: u32, length: usize) -> Part
+    ensures { λ r. ⌜ r ≡ the.part said area length ⌝ }
+{
+    Part {
+        number: said.number,
+        place: said.place,
+        area,
+        length,
+    }
+}
+
+fn figures_answer(said: Refusal, balance: i64, cover: usize) -> FiguresAnswer
+    ensures { λ r. ⌜ r ≡ the.figuresAnswer said balance cover ⌝ }
+{
+    FiguresAnswer {
+        number: said.number,
+        place: said.place,
+        balance,
+        cover,
     }
 }

@@ -189,18 +189,12 @@ pub extern "C" fn mask_view<'a>(job: Job, first: &'a [u8], second: &'a [u8]) -> 
 {
     let checked = job::view_verdict(job, first, second);
     match checked {
-        Verdict::Refused(refusal) => Part {
-            number: refusal.number,
-            place: refusal.place,
-            area: 0,
-            length: 0,
-        },
-        Verdict::Accepted => Part {
-            number: answers::ACCEPTED,
-            place: 0,
-            area: holder(job.passes),
-            length: job.width * job.height,
-        },
+        Verdict::Refused(refusal) => answers::part(refusal, 0, 0),
+        Verdict::Accepted => answers::part(
+            answers::said(Verdict::Accepted),
+            holder(job.passes),
+            job.width * job.height,
+        ),
     }
 }
 

@@ -26,7 +26,7 @@ use Rattle.seq.specs.Lists.{sameList}
 use Rattle.table.specs.declared.Table.{Table}
 use Rattle.table.specs.Record.{zeroTable}
 use Rattle.table.specs.Sample.{filled}
-use Rattle.verdict.specs.Answers.{numberOf}
+use Rattle.verdict.specs.Answers.{said}
 
 abbrev standing : History → ℕ
 standing empty = 0
@@ -35,7 +35,7 @@ standing (holds e) = cond (e .settled) 2 1
 abbrev row : Call → Course → List ℕ
 row c w =
     let v = step c w in
-    numberOf (refusalOf (answerOf c (w .state)))
+    said (refusalOf (answerOf c (w .state))) .number
     ∷ v .state .job .stage
     ∷ v .state .job .passes
     ∷ v .state .job .added

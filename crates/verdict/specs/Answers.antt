@@ -1,22 +1,20 @@
--- Answers in 01's terms: number and place, and the values of each case. Each answer that is an enum has such definitions beside it: `Verdict` and
+-- Answers in 01's terms: the refusal, and the values of each case. Each answer that is an enum has such definitions beside it: `Verdict` and
 -- `Written` here, the others in the crate that declares them. In a refused answer every value is zero.
---     numberOf v, placeOf v     of a verdict: 01's number and place, 0 and 0 where nothing is refused
+--     said v                    the refusal of a verdict; number 0 and zeros where nothing is refused
 --     writtenVerdict a          what a writer's answer refuses by
 --     writtenLength a           the file's length
 -- Assumes nothing.
 use Prim.Native.Nat.{ℕ}
+use Rattle.verdict.specs.declared.Refusal.{Refusal}
 use Rattle.verdict.specs.declared.Verdict.{Verdict}
 use Rattle.verdict.specs.declared.Verdict.the-variants.{Accepted, Refused}
 use Rattle.verdict.specs.declared.Written.{Written}
 use Rattle.verdict.specs.declared.Written.the-variants as written
+use Rattle.verdict.specs.Rules.{refusal}
 
-abbrev pub numberOf : Verdict → ℕ
-numberOf Accepted = 0
-numberOf (Refused r) = r .number
-
-abbrev pub placeOf : Verdict → ℕ
-placeOf Accepted = 0
-placeOf (Refused r) = r .place
+abbrev pub said : Verdict → Refusal
+said Accepted = refusal 0 0
+said (Refused r) = r
 
 abbrev pub writtenVerdict : Written → Verdict
 writtenVerdict (written.Length n) = Accepted

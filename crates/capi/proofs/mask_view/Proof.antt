@@ -14,24 +14,36 @@ view-verdict-requires c κs = search needs
 enum-known-checked : tie.Need-enum-known-checked
 enum-known-checked c = search needs
 
+part-requires : tie.Need-part-requires
+part-requires c κs = search needs
+
 enum-told : tie.Need-enum-told
 enum-told c = search needs
+
+said-requires : tie.Need-said-requires
+said-requires c κs = search needs
 
 holder-requires : tie.Need-holder-requires
 holder-requires c κs = search needs
 
-mul-t8 : tie.Need-mul-t8
-mul-t8 c =
-    let told = c .before .before in
+mul-part : tie.Need-mul-part
+mul-part c =
+    let told = c .before .before .before in
     record { fits = omega (arith, ready-small (accepted-ready _ (sym (told .before .before .view-verdict .ensures) ∙ told .enum-told .given .1))) }
 
+part-requires-2 : tie.Need-part-requires-2
+part-requires-2 c κs = search needs
+
 returns : tie.Need-returns
-returns c = part-refused _ (sym (c .before .before .before .view-verdict .ensures) ∙ c .before .checked .given .1)
+returns c =
+    let known = c .before .before in
+    rw (c .part .ensures) (part-refused _ (sym (known .before .before .view-verdict .ensures) ∙ known .checked .given .1))
 
 returns-2 : tie.Need-returns-2
 returns-2 c =
-    let told = c .before .before in
-    part-accepted _ (sym (told .before .before .view-verdict .ensures) ∙ told .enum-told .given .1) (c .before .holder .ensures)
+    let held = c .before .before in
+    let told = held .before .before in
+    rw (c .part2 .ensures, held .before .said .ensures) (part-accepted _ (sym (told .before .before .view-verdict .ensures) ∙ told .enum-told .given .1) (held .holder .ensures))
 
 pub mask-view-spec : {M : Type 1} → statement M
 mask-view-spec =
@@ -39,8 +51,11 @@ mask-view-spec =
     (tie.spec
     view-verdict-requires
     enum-known-checked
+    part-requires
     enum-told
+    said-requires
     holder-requires
-    mul-t8
+    mul-part
+    part-requires-2
     returns
     returns-2)
