@@ -21,9 +21,9 @@ use Rattle.table.specs.declared.Table.{Table}
 use Rattle.table.specs.Record.{recordVerdict}
 use Rattle.verdict.specs.declared.Refusal.{Refusal}
 use Rattle.verdict.specs.declared.Verdict.the-variants.{Refused}
-use Rattle.verdict.specs.Numbers.{OneOf, accepts, refuses}
+use Rattle.verdict.specs.Numbers.{by, OneOf, accepts, refuses}
 use Rattle.verdict.specs.Rules.{judge}
-use Rattle.verdict.proofs.Numbers.{one-of-if, one-of-or, one-of-more, one-of-other}
+use Rattle.verdict.proofs.Numbers.{says-if, says-or, one-of-more, one-of-other}
 
 -- because of the input
 abbrev pub inputNumbers : List ℕ
@@ -35,25 +35,25 @@ callNumbers = 15 ∷ 16 ∷ 17 ∷ inputNumbers
 
 pub load-numbers : (t : Table) (x : Source) (n m : ℕ) → OneOf inputNumbers (judge (recordVerdict t ∷ sourceVerdict x ∷ areasRule x n m ∷ []))
 load-numbers t x n m =
-    one-of-or (one-of-more (record-numbers t) refl)
-    (one-of-or (one-of-more (source-numbers x) refl) (one-of-or (one-of-if (ltb n (sourceWidth x * sourceHeight x) || ltb m (sourceWidth x * sourceHeight x)) 13 0 refl) accepts))
+    says-or (one-of-more (record-numbers t) refl)
+    (says-or (one-of-more (source-numbers x) refl) (says-or (says-if (ltb n (sourceWidth x * sourceHeight x) || ltb m (sourceWidth x * sourceHeight x)) 13 0 (by refl)) accepts))
 
 call-numbers : (c : Call) (n : Lengths) (H : History) → OneOf callNumbers (refusedBy c n H)
 unfolding refusedBy
 call-numbers (load t x) n empty = one-of-more (load-numbers t x (n .first) (n .second)) refl
-call-numbers (load t x) n (holds e) = refuses refl
-call-numbers pass n empty = refuses refl
+call-numbers (load t x) n (holds e) = refuses (by refl)
+call-numbers pass n empty = refuses (by refl)
 call-numbers pass n (holds e) = accepts
-call-numbers run n empty = refuses refl
+call-numbers run n empty = refuses (by refl)
 call-numbers run n (holds e) = accepts
-call-numbers view n empty = refuses refl
+call-numbers view n empty = refuses (by refl)
 call-numbers view n (holds e) = accepts
-call-numbers figures n empty = refuses refl
+call-numbers figures n empty = refuses (by refl)
 call-numbers figures n (holds e) = accepts
-call-numbers (collect out) n empty = refuses refl
+call-numbers (collect out) n empty = refuses (by refl)
 call-numbers (collect out) n (holds e) =
-    one-of-or (one-of-if (not (e .settled)) 17 0 refl)
-    (one-of-or (one-of-if (ltb (length out) (length (imageBytes (e .width) (e .height) (e .last)))) 13 0 refl) accepts)
+    says-or (says-if (not (e .settled)) 17 0 (by refl))
+    (says-or (says-if (ltb (length out) (length (imageBytes (e .width) (e .height) (e .last)))) 13 0 (by refl)) accepts)
 
 pub never-14 : (c : Call) (n : Lengths) (H : History) (r : Refusal) → refusedBy c n H ≡ Refused r → r .number ≢ 14
 never-14 c n H r q = one-of-other (call-numbers c n H) refl q

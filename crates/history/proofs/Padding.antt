@@ -26,16 +26,16 @@ use Rattle.table.specs.declared.Table.{Table}
 use Rattle.verdict.specs.declared.Refusal.{Refusal}
 use Rattle.verdict.specs.declared.Verdict.the-variants.{Refused}
 use Rattle.verdict.specs.declared.Written.the-variants.{Length}
-use Rattle.verdict.specs.Numbers.{OneOf}
-use Rattle.verdict.proofs.Numbers.{one-of-if, one-of-or, one-of-more, one-of-other}
+use Rattle.verdict.specs.Numbers.{by, OneOf}
+use Rattle.verdict.proofs.Numbers.{says-if, says-or, one-of-more, one-of-other}
 use Rattle.verdict.proofs.Rules.{orElse-left}
 
 -- the numbers that a load is refused by
 load-refusals : (t : Table) (x : Source) (s : State) → OneOf (14 ∷ 15 ∷ inputNumbers) (loadVerdict t x s)
 unfolding loadVerdict
 load-refusals t x s =
-    one-of-or (one-of-if (unsound s) 14 0 refl)
-    (one-of-or (one-of-if (not (eqb (s .job .stage) 0)) 15 0 refl) (one-of-more (load-numbers t x (length (s .first)) (length (s .second))) refl))
+    says-or (says-if (unsound s) 14 0 (by refl))
+    (says-or (says-if (not (eqb (s .job .stage) 0)) 15 0 (by refl)) (one-of-more (load-numbers t x (length (s .first)) (length (s .second))) refl))
 
 -- files that differ in unused bits alone
 alike : (f g : List ℕ) → cleared f ≡ cleared g → SameSource (fromFile f) (fromFile g)

@@ -21,9 +21,9 @@ use Rattle.seq.proofs.Members.{all-tab}
 use Rattle.seq.proofs.Tab.{length-tab}
 use Rattle.seq.specs.Lists.{all}
 use Rattle.verdict.specs.declared.Verdict.the-variants.{Accepted}
-use Rattle.verdict.specs.Numbers.{OneOf, accepts}
+use Rattle.verdict.specs.Numbers.{by, OneOf, accepts}
 use Rattle.verdict.specs.Rules.{refuseIf}
-use Rattle.verdict.proofs.Numbers.{one-of-if, one-of-or}
+use Rattle.verdict.proofs.Numbers.{says-if, says-or}
 use Rattle.verdict.proofs.Rules.{orElse-left, orElse-right, refuseIf-accepted}
 
 pub record FileGood (f : List ℕ) : Type 0 where
@@ -68,6 +68,6 @@ accepted-file f e =
 pub file-numbers : (f : List ℕ) → OneOf (9 ∷ 10 ∷ 11 ∷ []) (fileVerdict f)
 unfolding fileVerdict
 file-numbers f =
-    one-of-or (one-of-if (not (headerForm f)) 9 0 refl)
-    (one-of-or (one-of-if (badSize (widthOf f) (heightOf f)) 10 0 refl)
-    (one-of-or (one-of-if (not (eqb (length (raster f)) (rowBytes (widthOf f) * heightOf f))) 11 0 refl) accepts))
+    says-or (says-if (not (headerForm f)) 9 0 (by refl))
+    (says-or (says-if (badSize (widthOf f) (heightOf f)) 10 0 (by refl))
+    (says-or (says-if (not (eqb (length (raster f)) (rowBytes (widthOf f) * heightOf f))) 11 0 (by refl)) accepts))

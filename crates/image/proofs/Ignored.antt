@@ -16,9 +16,9 @@ use Rattle.image.proofs.Facts.{file-numbers}
 use Rattle.image.proofs.HeaderParts.{HeaderRead, header-same}
 use Rattle.image.proofs.Padding.{pixels-cleared}
 use Rattle.seq.proofs.Tab.{length-tab}
-use Rattle.verdict.specs.Numbers.{OneOf}
+use Rattle.verdict.specs.Numbers.{by, OneOf}
 use Rattle.verdict.specs.Writer.{outputOf}
-use Rattle.verdict.proofs.Numbers.{one-of-if, one-of-or, one-of-more, one-of-other}
+use Rattle.verdict.proofs.Numbers.{says-if, says-or, one-of-more, one-of-other}
 
 pub record SameImage (f g : List ℕ) : Type 0 where
   pub verdict : fileVerdict f ≡ fileVerdict g
@@ -62,7 +62,7 @@ same-image f g e =
 
 pub image-numbers : (f : List ℕ) (n : ℕ) → OneOf (9 ∷ 10 ∷ 11 ∷ 13 ∷ []) (imageVerdict f n)
 unfolding imageVerdict
-image-numbers f n = one-of-or (one-of-more (file-numbers f) refl) (one-of-if (ltb n (widthOf f * heightOf f)) 13 0 refl)
+image-numbers f n = says-or (one-of-more (file-numbers f) refl) (says-if (ltb n (widthOf f * heightOf f)) 13 0 (by refl))
 
 same-answer : (f g : List ℕ) → cleared f ≡ cleared g → (n : ℕ) → imageRead f n ≡ imageRead g n
 unfolding imageRead imageVerdict

@@ -28,9 +28,9 @@ use Rattle.table.specs.Code.Search.{found, badOf, lowestBad, behindEleme
 use Rattle.table.specs.Record.{maxElements, maxRanks, badCount, badRanks, badElement, badPersistent, badPlace, disjointFrom, missedBy, persistentPlace, countRule, placesRule, ranksRule, persistentRule, meetRule, persistRule, recordVerdict}
 use Rattle.table.proofs.Judging.{four-accepted}
 use Rattle.verdict.specs.declared.Verdict.the-variants.{Accepted, Refused}
-use Rattle.verdict.specs.Numbers.{OneOf, accepts}
+use Rattle.verdict.specs.Numbers.{by, OneOf, accepts}
 use Rattle.verdict.specs.Rules.{refusal, refuseAt, orElse, judge}
-use Rattle.verdict.proofs.Numbers.{one-of-if, one-of-at, one-of-or}
+use Rattle.verdict.proofs.Numbers.{says-if, says-at, says-or}
 use Rattle.verdict.proofs.Rules.{refuseIf-accepted, refuseAt-accepted, orElse-accepted, orElse-left, orElse-right}
 
 pub search-lt : (p : ℕ → Bool) (n : ℕ) {s : Search} {k : ℕ} → found s ≡ first p n → s ≡ Found k → k < n
@@ -124,9 +124,9 @@ sound-record t s = record-persistents t (s .counted) (s .placed) ∙ persistents
 pub record-numbers : (t : Table) → OneOf (3 ∷ 4 ∷ 18 ∷ 6 ∷ 5 ∷ 7 ∷ []) (recordVerdict t)
 unfolding recordVerdict
 record-numbers t =
-    one-of-or (one-of-if (badCount (t .count)) 3 0 refl)
-    (one-of-or (one-of-at (lowestElement t) 4 suc refl)
-    (one-of-or (one-of-if (badRanks 1 (t .ranks)) 18 (t .count + 1) refl)
-    (one-of-or (one-of-at (lowestPersistent t) 6 (persistentPlace t) refl)
-    (one-of-or (one-of-at (first (λ k. isSome (disjointFrom t k)) (t .count)) 5 suc refl)
-    (one-of-or (one-of-at (first (λ k. isSome (missedBy t k)) (t .count)) 7 suc refl) accepts)))))
+    says-or (says-if (badCount (t .count)) 3 0 (by refl))
+    (says-or (says-at (lowestElement t) 4 suc (λ p. by refl))
+    (says-or (says-if (badRanks 1 (t .ranks)) 18 (t .count + 1) (by refl))
+    (says-or (says-at (lowestPersistent t) 6 (persistentPlace t) (λ p. by refl))
+    (says-or (says-at (first (λ k. isSome (disjointFrom t k)) (t .count)) 5 suc (λ p. by refl))
+    (says-or (says-at (first (λ k. isSome (missedBy t k)) (t .count)) 7 suc (λ p. by refl)) accepts)))))

@@ -3,7 +3,6 @@
 --     largestMask         the mask of all positions
 --     across n, down n    dx + 2 and dy + 2 of position n
 --     centre              the position of the offset (0, 0)
---     largestMask         all 25 positions
 --     positions m         the positions of the mask m, rising
 --     validMask m         1 to the largest mask
 --     meets e f           the masks share a position

@@ -3,7 +3,7 @@
 --     judge-append, judge-last      a list of rules in two parts, and with one rule more at its end
 --     judge-accepted    every rule of an accepted list accepts
 --     accepted-judge    a list of rules that all accept
---     refuseIf-accepted, refuseAt-accepted   what a rule that accepts says of its test, of its search
+--     refuseIf-accepted, refuseBy-accepted, refuseAt-accepted    what a rule that accepts says of its test, of its search
 --     refuseAt-map      a place that is worked out before or after
 -- Assumes nothing.
 use mathlib.Core.Bool.{Bool, true, false}
@@ -15,7 +15,7 @@ use native.Mathlib.Omega.{arith}
 use Rattle.verdict.specs.declared.Refusal.{Refusal}
 use Rattle.verdict.specs.declared.Verdict.{Verdict}
 use Rattle.verdict.specs.declared.Verdict.the-variants.{Accepted, Refused}
-use Rattle.verdict.specs.Rules.{refuseIf, refuseAt, orElse, judge}
+use Rattle.verdict.specs.Rules.{refusal, refuseIf, refuseBy, refuseAt, orElse, judge}
 
 pub judge-append : (vs ws : List Verdict) → judge (vs ++ ws) ≡ orElse (judge vs) (judge ws)
 judge-append [] ws = refl
@@ -58,9 +58,12 @@ pub refuseIf-accepted : (b : Bool) (n p : ℕ) → refuseIf b n p ≡ Accepted �
 refuseIf-accepted true n p e = refused-accepted refl e
 refuseIf-accepted false n p e = refl
 
+pub refuseBy-accepted : (o : Option ℕ) (say : ℕ → Refusal) → refuseBy o say ≡ Accepted → o ≡ none
+refuseBy-accepted none say e = refl
+refuseBy-accepted (some k) say e = refused-accepted refl e
+
 pub refuseAt-accepted : (o : Option ℕ) (n : ℕ) (at : ℕ → ℕ) → refuseAt o n at ≡ Accepted → o ≡ none
-refuseAt-accepted none n at e = refl
-refuseAt-accepted (some k) n at e = refused-accepted refl e
+refuseAt-accepted o n at = refuseBy-accepted o (λ k. refusal n (at k))
 
 pub refuseAt-map : (o : Option ℕ) (n : ℕ) (at : ℕ → ℕ) → refuseAt o n at ≡ refuseAt (Option·map at o) n (λ k. k)
 refuseAt-map none n at = refl

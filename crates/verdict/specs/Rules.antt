@@ -1,6 +1,7 @@
 -- Check lists: rules in 01's order, of which the first that fails speaks.
 --     refusal n p            the refusal with number n at place p
 --     refuseIf bad n p       refuse with n at p where the test bad holds
+--     refuseBy found say     refuse with what is said of what a search found
 --     refuseAt found n at    refuse with n at the place of what a search found
 --     orElse v w             the first verdict where it refuses, else the second
 --     judge rules            the first refusal of the list, in its order
@@ -21,9 +22,12 @@ abbrev pub refuseIf : Bool → ℕ → ℕ → Verdict
 refuseIf true n p = Refused (refusal n p)
 refuseIf false n p = Accepted
 
+abbrev pub refuseBy : Option ℕ → (ℕ → Refusal) → Verdict
+refuseBy none say = Accepted
+refuseBy (some k) say = Refused (say k)
+
 abbrev pub refuseAt : Option ℕ → ℕ → (ℕ → ℕ) → Verdict
-refuseAt none n at = Accepted
-refuseAt (some k) n at = Refused (refusal n (at k))
+refuseAt found n at = refuseBy found (λ k. refusal n (at k))
 
 abbrev pub orElse : Verdict → Verdict → Verdict
 orElse Accepted w = w
