@@ -1,7 +1,7 @@
 /* Cleans one image through the library: clean TABLE SHEET OUT
-   Prints width, height, passes, added, removed; the figures go to standard error. A refusal prints `refused`, its number
-   and place, and leaves OUT as it is. Exit status: 0 done, 1 refused, 2 wrong use or trouble with a file. OUT is written
-   in place: trouble in the middle of it leaves a part (bin/clean has more care). */
+   Prints width, height, passes, added, removed; the figures go to standard error. A refusal prints `refused`, its number,
+   place, witness and position, and leaves OUT as it is. Exit status: 0 done, 1 refused, 2 wrong use or trouble with a file.
+   OUT is written in place: trouble in the middle of it leaves a part (bin/clean has more care). */
 #include <stdbool.h>
 #include <stdio.h>
 
@@ -16,10 +16,13 @@ static uint8_t first[MASK_MAX_PIXELS];
 static uint8_t second[MASK_MAX_PIXELS];
 static uint8_t out[MASK_MAX_IMAGE_FILE];
 
-static int refused(uint32_t number, size_t place) {
-    printf("refused %lu %zu\n", (unsigned long)number, place);
+static int refused(uint32_t number, size_t place, size_t witness, size_t position) {
+    printf("refused %lu %zu %zu %zu\n", (unsigned long)number, place, witness, position);
     return REFUSED;
 }
+
+/* What every answer starts with, for the call above. */
+#define START(answer) (answer).number, (answer).place, (answer).witness, (answer).position
 
 static bool read_file(const char *path, uint8_t *bytes, size_t room, size_t *length) {
     FILE *file = fopen(path, "rb");
@@ -54,20 +57,20 @@ static int clean(mask_table table, size_t image_length, const char *path) {
     mask_job job = {0};
     mask_checked loaded = mask_load(&job, table, image_file, image_length, first, sizeof first, second, sizeof second);
     if (loaded.number != MASK_ACCEPTED) {
-        return refused(loaded.number, loaded.place);
+        return refused(START(loaded));
     }
     mask_progress ran = mask_run(&job, first, sizeof first, second, sizeof second);
     if (ran.number != MASK_ACCEPTED) {
-        return refused(ran.number, ran.place);
+        return refused(START(ran));
     }
     mask_figures_answer figures = mask_figures(job, first, sizeof first, second, sizeof second);
     if (figures.number != MASK_ACCEPTED) {
-        return refused(figures.number, figures.place);
+        return refused(START(figures));
     }
     mask_job stable = job; /* collect empties the record */
     mask_file_length file = mask_collect(&job, first, sizeof first, second, sizeof second, out, sizeof out);
     if (file.number != MASK_ACCEPTED) {
-        return refused(file.number, file.place);
+        return refused(START(file));
     }
     if (!write_file(path, out, file.length)) {
         return TROUBLE;
@@ -88,7 +91,7 @@ static int clean_files(const char *table, const char *sheet, const char *path) {
     }
     mask_table_answer read = mask_table_read(table_file, table_length);
     if (read.number != MASK_ACCEPTED) {
-        return refused(read.number, read.place);
+        return refused(START(read));
     }
     return clean(read.table, image_length, path);
 }

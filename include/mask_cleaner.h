@@ -1,8 +1,9 @@
 /* The mask cleaner for C: tables, images and jobs. Link with libmask_cleaner.a (x86-64 Linux).
 
-   A call either does its work or is refused. Every answer starts with `number` and `place`: number 0 means
-   accepted; else number is one of the refusal numbers below, place says where, and all else in the answer is 0. A
-   refused call leaves all lent memory as it was. (One exception: see mask_run.)
+   A call either does its work or is refused. Every answer starts with `number`, `place`, `witness` and `position`:
+   number 0 means accepted, and the other three are 0 then; else number is one of the refusal numbers below, place says
+   where, witness and position say more with 5 and 7, and all else in the answer is 0. A refused call leaves all lent
+   memory as it was. (One exception: see mask_run.)
 
    What the caller must see to, since no call can test it:
    - No pointer is null, also where its length is 0. Each points at as many bytes as its length says.
@@ -44,9 +45,9 @@ extern "C" {
 #define MASK_NUMBER_FORM 2        /* table file: a fourth group has bit 7 set (also at the end of the bytes), or the last of several groups is 0; which number */
 #define MASK_ELEMENT_COUNT 3      /* the count of elements is not 1 to 64 */
 #define MASK_ELEMENT_RANGE 4      /* an element is 0, above 33554431, with bit 12, or not above the one before, or, in a record, nonzero past the count; the lowest such */
-#define MASK_ELEMENTS_DISJOINT 5  /* an element shares no position with an earlier one; the lowest such */
+#define MASK_ELEMENTS_DISJOINT 5  /* an element shares no position with an earlier one; the lowest such; its witness: below */
 #define MASK_PERSISTENT_RANGE 6   /* a persistent element is 0, above 33554431, or not above the one before, or, in a record, nonzero past the ranks; the lowest such */
-#define MASK_NOT_PERSISTENT 7     /* a persistent element is not persistent; the lowest element that one of them misses */
+#define MASK_NOT_PERSISTENT 7     /* a persistent element is not persistent; the lowest element that one of them misses; its witness and position: below */
 #define MASK_BYTES_LEFT 8         /* table file: bytes after the last persistent element; one more than its place */
 #define MASK_HEADER_FORM 9        /* image file: the header is not `P4`, line feed, width, space, height, line feed */
 #define MASK_SIZE_RANGE 10        /* width or height is not 1 to 256 */
@@ -62,6 +63,14 @@ extern "C" {
 /* The place of a table's parts: 0 the count, and the 0 before it in a file; i the i-th element (from 1). The only persistent
    element of a table is at count + 1. Where there are two to four, their number is at count + 1, and the one of rank r (from
    1) at count + 1 + r; so are a record's places past its ranks. */
+
+/* The witness and the position of 5 and 7, whichever call gives them. They are about the element at `place`.
+   5: the witness is the lowest earlier element (from 1) that shares no position with it. The position is 0.
+   7: the witness is the lowest rank (from 1) of the persistent elements that miss it. The position is the lowest bit (0 to
+      24) of that persistent element without a partner in it: as offsets, bit + a is outside the persistent element for
+      each a of the element.
+   With any other number, and where accepted, both are 0. Position 0 is a true position, so only the number tells whether
+   the two mean something. */
 
 /* ---- records */
 
@@ -96,17 +105,23 @@ typedef struct {
 typedef struct {
     uint32_t number;
     size_t place;
+    size_t witness;
+    size_t position;
 } mask_checked;
 
 typedef struct {
     uint32_t number;
     size_t place;
+    size_t witness;
+    size_t position;
     mask_table table;
 } mask_table_answer;
 
 typedef struct {
     uint32_t number;
     size_t place;
+    size_t witness;
+    size_t position;
     size_t width;
     size_t height;
 } mask_image_size;
@@ -114,18 +129,24 @@ typedef struct {
 typedef struct {
     uint32_t number;
     size_t place;
+    size_t witness;
+    size_t position;
     size_t length; /* bytes of the file */
 } mask_file_length;
 
 typedef struct {
     uint32_t number;
     size_t place;
+    size_t witness;
+    size_t position;
     uint32_t stable; /* 1: nothing changed; 0: pixels changed, or refused */
 } mask_progress;
 
 typedef struct {
     uint32_t number;
     size_t place;
+    size_t witness;
+    size_t position;
     uint32_t area; /* 1: the first, 2: the second; 0: refused */
     size_t length; /* its first bytes, in row order, one for each pixel: 0 white, 1 black */
 } mask_part;
@@ -133,6 +154,8 @@ typedef struct {
 typedef struct {
     uint32_t number;
     size_t place;
+    size_t witness;
+    size_t position;
     int64_t balance; /* added - removed */
     size_t cover;    /* 1000 x black pixels / pixels to the nearest whole number, an exact half to the even one */
 } mask_figures_answer;

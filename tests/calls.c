@@ -20,7 +20,10 @@ static int failures = 0;
         }                                                     \
     } while (0)
 
-#define REFUSED(answer, n, p) ((answer).number == (n) && (answer).place == (p))
+/* These ask their answer four times: a call that alters something is made before, once. */
+#define WITNESSED(answer, n, p, w, q) \
+    ((answer).number == (n) && (answer).place == (p) && (answer).witness == (w) && (answer).position == (q))
+#define REFUSED(answer, n, p) WITNESSED(answer, n, p, 0, 0)
 #define ACCEPTED(answer) REFUSED(answer, 0, 0)
 
 static const uint8_t ring_file[] = {0x01, 0xC0, 0xD3, 0x1C, 0x80, 0xE0, 0x18};
@@ -80,15 +83,27 @@ static int same_job(mask_job a, mask_job b) {
         && a.removed == b.removed && same_table(a.table, b.table);
 }
 
+/* What every answer starts with is in the same place. */
+#define STARTS(answer)                                                                \
+    EXPECT(offsetof(answer, number) == 0 && offsetof(answer, place) == 8              \
+        && offsetof(answer, witness) == 16 && offsetof(answer, position) == 24)
+
 static void layout(void) {
     EXPECT(sizeof(size_t) == 8);
     EXPECT(sizeof(mask_table) == 288 && offsetof(mask_table, count) == 0 && offsetof(mask_table, elements) == 8);
     EXPECT(offsetof(mask_table, ranks) == 264 && offsetof(mask_table, persistents) == 272);
     EXPECT(sizeof(mask_job) == 336 && offsetof(mask_job, width) == 8 && offsetof(mask_job, removed) == 40);
     EXPECT(offsetof(mask_job, table) == 48);
-    EXPECT(sizeof(mask_checked) == 16 && sizeof(mask_table_answer) == 304 && sizeof(mask_image_size) == 32);
-    EXPECT(sizeof(mask_file_length) == 24 && sizeof(mask_progress) == 24 && sizeof(mask_part) == 32);
-    EXPECT(sizeof(mask_figures_answer) == 32);
+    EXPECT(sizeof(mask_checked) == 32 && sizeof(mask_table_answer) == 320 && sizeof(mask_image_size) == 48);
+    EXPECT(sizeof(mask_file_length) == 40 && sizeof(mask_progress) == 40 && sizeof(mask_part) == 48);
+    EXPECT(sizeof(mask_figures_answer) == 48);
+    STARTS(mask_checked);
+    STARTS(mask_table_answer);
+    STARTS(mask_image_size);
+    STARTS(mask_file_length);
+    STARTS(mask_progress);
+    STARTS(mask_part);
+    STARTS(mask_figures_answer);
 }
 
 /* Each place of the elements is seen by value. */
@@ -104,12 +119,12 @@ static void table_check(void) {
     EXPECT(REFUSED(mask_table_check(t), MASK_ELEMENT_COUNT, 0));
     t = ring();
     t.persistents[0] = 4096;
-    EXPECT(REFUSED(mask_table_check(t), MASK_NOT_PERSISTENT, 1));
+    EXPECT(WITNESSED(mask_table_check(t), MASK_NOT_PERSISTENT, 1, 1, 12));
     t = ring();
     t.count = 2;
     t.elements[0] = 2048;
     t.elements[1] = 8192;
-    EXPECT(REFUSED(mask_table_check(t), MASK_ELEMENTS_DISJOINT, 2));
+    EXPECT(WITNESSED(mask_table_check(t), MASK_ELEMENTS_DISJOINT, 2, 1, 0));
 }
 
 /* The ranks, and each place of the persistent elements, are seen by value. */
@@ -126,7 +141,7 @@ static void persistents_check(void) {
     t.persistents[1] = t.persistents[0];
     EXPECT(REFUSED(mask_table_check(t), MASK_PERSISTENT_RANGE, 4));
     t.persistents[1] = 266240; /* positions 12 and 18 */
-    EXPECT(REFUSED(mask_table_check(t), MASK_NOT_PERSISTENT, 1));
+    EXPECT(WITNESSED(mask_table_check(t), MASK_NOT_PERSISTENT, 1, 2, 12));
     t.ranks = 0;
     EXPECT(REFUSED(mask_table_check(t), MASK_RANK_COUNT, 2));
     t.ranks = MASK_MAX_RANKS + 1;
@@ -161,6 +176,81 @@ static void table_files(void) {
     w = mask_table_write(cross(2), out, sizeof out);
     EXPECT(ACCEPTED(w) && w.length == sizeof cobbles_file && memcmp(out, cobbles_file, sizeof cobbles_file) == 0);
     EXPECT(all(out + sizeof cobbles_file, sizeof out - sizeof cobbles_file, FILL));
+}
+
+/* Tables that are refused by 5 or 7, as files and records. */
+typedef struct {
+    uint8_t file[16];
+    size_t length;
+    mask_table table;
+    uint32_t number;
+    size_t place, witness, position;
+} refused_table;
+
+#define REFUSED_AS(answer, t) WITNESSED(answer, (t)->number, (t)->place, (t)->witness, (t)->position)
+
+/* Check, read, write and load give witness and position. */
+static void witnessed_calls(const refused_table *t) {
+    uint8_t out[16];
+    uint8_t first[32];
+    uint8_t second[32];
+    mask_table zero = {0};
+    mask_job j = {0};
+    mask_job empty = {0};
+    memset(out, FILL, sizeof out);
+    memset(first, FILL, sizeof first);
+    memset(second, FILL, sizeof second);
+    EXPECT(REFUSED_AS(mask_table_check(t->table), t));
+    mask_table_answer r = mask_table_read(t->file, t->length);
+    EXPECT(REFUSED_AS(r, t) && same_table(r.table, zero));
+    mask_file_length w = mask_table_write(t->table, out, sizeof out);
+    EXPECT(REFUSED_AS(w, t) && w.length == 0 && all(out, sizeof out, FILL));
+    mask_checked l = mask_load(&j, t->table, dot_file, sizeof dot_file, first, 32, second, 32);
+    EXPECT(REFUSED_AS(l, t) && same_job(j, empty) && all(first, 32, FILL) && all(second, 32, FILL));
+}
+
+/* In the record of a job such a table is unsound, without a witness. */
+static void unsound_table(const refused_table *t) {
+    uint8_t first[16] = {0};
+    uint8_t second[16] = {0};
+    uint8_t out[16];
+    mask_job j = by_hand();
+    EXPECT(ACCEPTED(mask_view(j, first, 16, second, 16)));
+    j.table = t->table;
+    mask_job before = j;
+    EXPECT(REFUSED(mask_view(j, first, 16, second, 16), MASK_UNSOUND, 0));
+    EXPECT(REFUSED(mask_figures(j, first, 16, second, 16), MASK_UNSOUND, 0));
+    EXPECT(REFUSED(mask_pass(&j, first, 16, second, 16), MASK_UNSOUND, 0));
+    EXPECT(REFUSED(mask_run(&j, first, 16, second, 16), MASK_UNSOUND, 0));
+    EXPECT(REFUSED(mask_collect(&j, first, 16, second, 16, out, 16), MASK_UNSOUND, 0));
+    EXPECT(REFUSED(mask_load(&j, ring(), dot_file, sizeof dot_file, first, 16, second, 16), MASK_UNSOUND, 0));
+    EXPECT(same_job(j, before));
+}
+
+static void witnesses(void) {
+    static const refused_table tables[] = {
+        {{0x04, 0x41, 0x81, 0x01, 0xC0, 0x01, 0x81, 0x80, 0x80, 0x08, 0x80, 0x60}, 12,
+         {4, {65, 129, 192, 16777217}, 1, {12288}}, MASK_ELEMENTS_DISJOINT, 4, 3, 0},
+        /* the fourth shares nothing with any */
+        {{0x04, 0xC0, 0x01, 0xC0, 0x02, 0x80, 0x03, 0x80, 0x14, 0x80, 0x60}, 11,
+         {4, {192, 320, 384, 2560}, 1, {12288}}, MASK_ELEMENTS_DISJOINT, 4, 1, 0},
+        {{0x01, 0xC0, 0xD3, 0x1C, 0x01}, 5,
+         {1, {RING}, 1, {1}}, MASK_NOT_PERSISTENT, 1, 1, 0},
+        /* both miss */
+        {{0x00, 0x01, 0xC0, 0xD3, 0x1C, 0x02, 0x01, 0x02}, 8,
+         {1, {RING}, 2, {1, 2}}, MASK_NOT_PERSISTENT, 1, 1, 0},
+        {{0x02, 0x80, 0xD0, 0x80, 0x08, 0x80, 0x81, 0x88, 0x08, 0x80, 0x60}, 11,
+         {2, {16787456, 16908416}, 1, {12288}}, MASK_NOT_PERSISTENT, 2, 1, 12},
+        {{0x00, 0x01, 0x80, 0xD1, 0x08, 0x02, 0x80, 0x60, 0x80, 0xA0, 0x10}, 11,
+         {1, {CROSS}, 2, {12288, 266240}}, MASK_NOT_PERSISTENT, 1, 2, 12},
+        /* the first misses the second element, the second the first */
+        {{0x00, 0x02, 0x84, 0x50, 0x84, 0x81, 0x08, 0x02, 0x80, 0x60, 0x80, 0xA0, 0x08}, 13,
+         {2, {10244, 131204}, 2, {12288, 135168}}, MASK_NOT_PERSISTENT, 1, 2, 12},
+    };
+    for (size_t i = 0; i < sizeof tables / sizeof *tables; i++) {
+        witnessed_calls(&tables[i]);
+        unsound_table(&tables[i]);
+    }
 }
 
 static void image_files(void) {
@@ -360,7 +450,8 @@ static void whole_job(int by_run) {
     memset(first, FILL, sizeof first);
     memset(second, FILL, sizeof second);
     memset(out, FILL, sizeof out);
-    EXPECT(ACCEPTED(mask_load(&j, ring(), dot_file, sizeof dot_file, first, 30, second, 31)));
+    mask_checked l = mask_load(&j, ring(), dot_file, sizeof dot_file, first, 30, second, 31);
+    EXPECT(ACCEPTED(l));
     EXPECT(j.stage == 1 && j.width == 5 && j.height == 5 && j.passes == 0 && j.added == 0 && j.removed == 0);
     EXPECT(same_table(j.table, ring()) && all(second, 32, FILL) && all(first + 25, 7, FILL));
     EXPECT(all(first, 12, 0) && first[12] == 1 && all(first + 13, 12, 0));
@@ -403,7 +494,8 @@ static void pass_clause(void) {
     mask_job j = {0};
     memset(first, FILL, sizeof first);
     memset(second, FILL, sizeof second);
-    EXPECT(ACCEPTED(mask_load(&j, ring(), dot_file, sizeof dot_file, first, 32, second, 32)));
+    mask_checked l = mask_load(&j, ring(), dot_file, sizeof dot_file, first, 32, second, 32);
+    EXPECT(ACCEPTED(l));
     j.added = 20;
     j.removed = 5;
     mask_job before = j;
@@ -418,6 +510,7 @@ int main(void) {
     table_check();
     persistents_check();
     table_files();
+    witnesses();
     image_files();
     preview();
     fields();

@@ -6,46 +6,44 @@
 use crate::record::{JobRecord, TableRecord};
 use std::mem::size_of;
 
+/// What every answer starts with.
 #[repr(C)]
 pub struct Verdict {
     pub number: u32,
     pub place: usize,
+    pub witness: usize,
+    pub position: usize,
 }
 
 #[repr(C)]
 pub struct TableRead {
-    pub number: u32,
-    pub place: usize,
+    pub verdict: Verdict,
     pub table: TableRecord,
 }
 
 #[repr(C)]
 pub struct ImageSize {
-    pub number: u32,
-    pub place: usize,
+    pub verdict: Verdict,
     pub width: usize,
     pub height: usize,
 }
 
 #[repr(C)]
 pub struct Length {
-    pub number: u32,
-    pub place: usize,
+    pub verdict: Verdict,
     pub length: usize,
 }
 
 #[repr(C)]
 pub struct Progress {
-    pub number: u32,
-    pub place: usize,
+    pub verdict: Verdict,
     /// 0 changed, 1 at rest.
     pub stable: u32,
 }
 
 #[repr(C)]
 pub struct Part {
-    pub number: u32,
-    pub place: usize,
+    pub verdict: Verdict,
     /// 1 first, 2 second.
     pub area: u32,
     pub length: usize,
@@ -53,16 +51,21 @@ pub struct Part {
 
 #[repr(C)]
 pub struct Figures {
-    pub number: u32,
-    pub place: usize,
+    pub verdict: Verdict,
     pub balance: i64,
     pub cover: usize,
 }
 
-// The sizes of the header's records.
+// The sizes of the header's records and answers.
 const _: () = assert!(size_of::<TableRecord>() == 288);
 const _: () = assert!(size_of::<JobRecord>() == 336);
-const _: () = assert!(size_of::<TableRead>() == 304);
+const _: () = assert!(size_of::<Verdict>() == 32);
+const _: () = assert!(size_of::<TableRead>() == 320);
+const _: () = assert!(size_of::<ImageSize>() == 48);
+const _: () = assert!(size_of::<Length>() == 40);
+const _: () = assert!(size_of::<Progress>() == 40);
+const _: () = assert!(size_of::<Part>() == 48);
+const _: () = assert!(size_of::<Figures>() == 48);
 
 extern "C" {
     pub fn mask_table_check(table: TableRecord) -> Verdict;

@@ -5,19 +5,19 @@
 //! A thread that calls needs 512 KB of stack.
 
 use crate::ffi;
-use crate::record::{Figures, JobRecord, Progress, Reason, Refusal, TableRecord};
+use crate::record::{Figures, JobRecord, Progress, Reason, Refusal, TableRecord, MAX_RANKS};
 
 pub fn check_table(table: &TableRecord) -> Result<(), Refusal> {
     // SAFETY: the record passes by value.
     let answer = unsafe { ffi::mask_table_check(*table) };
-    verdict(answer.number, answer.place, true)
+    verdict(answer, true)
 }
 
 pub fn read_table(file: &[u8]) -> Result<TableRecord, Refusal> {
     // SAFETY: the pointer and length are those of a slice that is only read.
     let answer = unsafe { ffi::mask_table_read(file.as_ptr(), file.len()) };
     let nothing = answer.table == TableRecord::EMPTY;
-    verdict(answer.number, answer.place, nothing)?;
+    verdict(answer.verdict, nothing)?;
     Ok(answer.table)
 }
 
@@ -25,7 +25,7 @@ pub fn read_table(file: &[u8]) -> Result<TableRecord, Refusal> {
 pub fn write_table(table: &TableRecord, out: &mut [u8]) -> Result<usize, Refusal> {
     // SAFETY: the pointer and length are those of a slice that nobody else uses.
     let answer = unsafe { ffi::mask_table_write(*table, out.as_mut_ptr(), out.len()) };
-    verdict(answer.number, answer.place, answer.length == 0)?;
+    verdict(answer.verdict, answer.length == 0)?;
     Ok(answer.length)
 }
 
@@ -35,7 +35,7 @@ pub fn read_image(file: &[u8], area: &mut [u8]) -> Result<(usize, usize), Refusa
     let answer =
         unsafe { ffi::mask_image_read(file.as_ptr(), file.len(), area.as_mut_ptr(), area.len()) };
     let nothing = (answer.width, answer.height) == (0, 0);
-    verdict(answer.number, answer.place, nothing)?;
+    verdict(answer.verdict, nothing)?;
     Ok((answer.width, answer.height))
 }
 
@@ -57,7 +57,7 @@ pub fn write_image(
             out.len(),
         )
     };
-    verdict(answer.number, answer.place, answer.length == 0)?;
+    verdict(answer.verdict, answer.length == 0)?;
     Ok(answer.length)
 }
 
@@ -74,7 +74,7 @@ pub fn preview(width: usize, height: usize, pixels: &[u8], area: &mut [u8]) -> R
             area.len(),
         )
     };
-    verdict(answer.number, answer.place, true)
+    verdict(answer, true)
 }
 
 pub fn load(
@@ -97,7 +97,7 @@ pub fn load(
             second.len(),
         )
     };
-    verdict(answer.number, answer.place, true)
+    verdict(answer, true)
 }
 
 pub fn pass(
@@ -153,7 +153,7 @@ pub fn view<'a>(
         )
     };
     let nothing = (answer.area, answer.length) == (0, 0);
-    verdict(answer.number, answer.place, nothing)?;
+    verdict(answer.verdict, nothing)?;
     match answer.area {
         1 => Ok(&first[..answer.length]),
         2 => Ok(&second[..answer.length]),
@@ -173,7 +173,7 @@ pub fn figures(record: &JobRecord, first: &[u8], second: &[u8]) -> Result<Figure
         )
     };
     let nothing = (answer.balance, answer.cover) == (0, 0);
-    verdict(answer.number, answer.place, nothing)?;
+    verdict(answer.verdict, nothing)?;
     Ok(Figures {
         balance: answer.balance,
         cover: answer.cover,
@@ -199,12 +199,12 @@ pub fn collect(
             out.len(),
         )
     };
-    verdict(answer.number, answer.place, answer.length == 0)?;
+    verdict(answer.verdict, answer.length == 0)?;
     Ok(answer.length)
 }
 
 fn progress(answer: ffi::Progress) -> Result<Progress, Refusal> {
-    verdict(answer.number, answer.place, answer.stable == 0)?;
+    verdict(answer.verdict, answer.stable == 0)?;
     match answer.stable {
         0 => Ok(Progress::Changed),
         1 => Ok(Progress::Stable),
@@ -213,14 +213,38 @@ fn progress(answer: ffi::Progress) -> Result<Progress, Refusal> {
 }
 
 /// The verdict of an answer. `nothing` says that all else in it is zero, as it must be in a refusal.
-fn verdict(number: u32, place: usize, nothing: bool) -> Result<(), Refusal> {
+fn verdict(verdict: ffi::Verdict, nothing: bool) -> Result<(), Refusal> {
+    let ffi::Verdict {
+        number,
+        place,
+        witness,
+        position,
+    } = verdict;
     if number == 0 {
-        assert_eq!(place, 0, "an accepted answer has a place");
+        let nowhere = (place, witness, position) == (0, 0, 0);
+        assert!(nowhere, "an accepted answer says where");
         return Ok(());
     }
     assert!(nothing, "a refused answer is not zero throughout");
-    match Reason::from_number(number) {
-        Some(reason) => Err(Refusal { reason, place }),
-        None => panic!("the library refuses by {number}"),
+    let Some(reason) = Reason::from_number(number) else {
+        panic!("the library refuses by {number}");
+    };
+    let refusal = Refusal::witnessed(reason, place, witness, position);
+    assert!(is_possible(&refusal), "the library answers {refusal}");
+    Err(refusal)
+}
+
+/// Witness and position are zero where the reason gives none, and else in their range.
+fn is_possible(refusal: &Refusal) -> bool {
+    let Refusal {
+        reason,
+        place,
+        witness,
+        position,
+    } = *refusal;
+    match reason {
+        Reason::Disjoint => (1..place).contains(&witness) && position == 0,
+        Reason::NotPersistent => (1..=MAX_RANKS).contains(&witness) && position < 25,
+        _ => (witness, position) == (0, 0),
     }
 }

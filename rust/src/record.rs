@@ -171,28 +171,50 @@ impl Reason {
     }
 }
 
-/// A refusal: 01's number and place.
+/// A refusal: 01's number and place, and what 5 and 7 give beside these (T-07).
 #[derive(Clone, Copy, Debug, PartialEq, Eq)]
 pub struct Refusal {
     pub reason: Reason,
     pub place: usize,
+    /// 5: the lowest earlier element that shares nothing with the one at the place. 7: the lowest rank that misses it. Else 0.
+    pub witness: usize,
+    /// 7: the lowest position of the witness without a partner in the element; 0 is a true one. Else 0.
+    pub position: usize,
 }
 
 impl Refusal {
+    /// A refusal by 5 or 7.
+    pub fn witnessed(reason: Reason, place: usize, witness: usize, position: usize) -> Refusal {
+        Refusal {
+            reason,
+            place,
+            witness,
+            position,
+        }
+    }
+
+    /// A refusal by any other number.
     pub fn at(reason: Reason, place: usize) -> Refusal {
-        Refusal { reason, place }
+        Refusal::witnessed(reason, place, 0, 0)
     }
 
     /// A refusal whose place is 0.
     pub fn of(reason: Reason) -> Refusal {
         Refusal::at(reason, 0)
     }
+
+    /// Number, place, witness and position.
+    pub fn numbers(&self) -> [usize; 4] {
+        let number = self.reason.number() as usize;
+        [number, self.place, self.witness, self.position]
+    }
 }
 
 impl fmt::Display for Refusal {
     fn fmt(&self, f: &mut fmt::Formatter<'_>) -> fmt::Result {
-        let Refusal { reason, place } = self;
-        write!(f, "refused {} {place}: {}", reason.number(), reason.text())
+        let [number, place, witness, position] = self.numbers();
+        let text = self.reason.text();
+        write!(f, "refused {number} {place} {witness} {position}: {text}")
     }
 }
 

@@ -1,13 +1,15 @@
-//! Tables: the library's check, reader and writer beside the reference's, on accepted and damaged records and files.
+//! Tables: the library's check, reader and writer beside the reference's, on accepted and damaged records and files; the witnesses
+//! of 5 and 7, by load too.
 
 mod common;
 
-use common::tables::{check, read, write};
-use common::{assert_reached, Tally};
-use mask_cleaner::cases::{named_tables, random_table, Random};
+use common::tables::{bytes, check, load, read, write};
+use common::{assert_reached, report, Tally};
+use mask_cleaner::cases::{median, named_tables, random_table, Random};
 use mask_cleaner::job::Table;
 use mask_cleaner::record::{Reason, Refusal, TableRecord, MAX_RANKS, PLACES};
 use mask_cleaner::reference::table::{self as reference, MAX_MASK};
+use std::collections::BTreeSet;
 
 const CENTRE: u32 = 1 << 12;
 const ABOVE: u32 = MAX_MASK + 1;
@@ -375,4 +377,238 @@ fn longest_file() {
     assert_eq!(returned, Ok(file.to_vec()));
     let longer = read(&[&file[..], &[0]].concat());
     assert_eq!(longer, Err(Refusal::at(Reason::BytesAfter, 70)));
+}
+
+/// 02's cases (T-07) on tables: elements; persistent elements | the file | number, place, witness, position.
+const WITNESSED: &str = "\
+    2048 8192; 12288 | 02 80 10 80 40 80 60 | 5 2 1 0
+    64 128 256; 12288 | 03 40 80 01 80 02 80 60 | 5 2 1 0
+    192 320 768; 12288 | 03 C0 01 C0 02 80 06 80 60 | 5 3 1 0
+    65 129 192 16777217; 12288 | 04 41 81 01 C0 01 81 80 80 08 80 60 | 5 4 3 0
+    192 320 384 2560; 12288 | 04 C0 01 C0 02 80 03 80 14 80 60 | 5 4 1 0
+    2048 8192; 4096 | 02 80 10 80 40 80 20 | 5 2 1 0
+    469440; 4096 | 01 C0 D3 1C 80 20 | 7 1 1 12
+    469440; 1 | 01 C0 D3 1C 01 | 7 1 1 0
+    141440; 12289 | 01 80 D1 08 81 60 | 7 1 1 0
+    131200 141440; 12288 | 02 80 81 08 80 D1 08 80 60 | 7 1 1 12
+    141440; 12288 266240 | 00 01 80 D1 08 02 80 60 80 A0 10 | 7 1 2 12
+    10244 131204; 12288 135168 | 00 02 84 50 84 81 08 02 80 60 80 A0 08 | 7 1 2 12
+    469440; 1 2 | 00 01 C0 D3 1C 02 01 02 | 7 1 1 0
+    141440; 6144 12288 266240 405504 | 00 01 80 D1 08 04 80 30 80 60 80 A0 10 80 E0 18 | 7 1 3 12
+    141440; 6144 12288 1052672 16781312 | 00 01 80 D1 08 04 80 30 80 60 80 A0 40 80 A0 80 08 | 7 1 3 12";
+
+/// Number, place, witness and position of a refusal.
+type Numbers = [usize; 4];
+
+/// A case of the list above.
+fn witnessed(line: &str) -> (TableRecord, Vec<u8>, Numbers) {
+    let parts: Vec<&str> = line.split(['|', ';']).collect();
+    let [elements, persistents, file, refusal] = parts[..] else {
+        panic!("{line}");
+    };
+    let numbers = |text: &str| -> Vec<u32> {
+        let numbers = text.split_whitespace().map(str::parse);
+        numbers.collect::<Result<_, _>>().expect("numbers")
+    };
+    let table = TableRecord::new(&numbers(elements), &numbers(persistents));
+    let refusal: Vec<usize> = numbers(refusal).iter().map(|n| *n as usize).collect();
+    let refusal = refusal.try_into().expect("four numbers");
+    (table, bytes(file), refusal)
+}
+
+/// A table in range, by its elements and its persistent elements.
+type Masks = (&'static [u32], &'static [u32]);
+
+/// Cases beside them.
+const BESIDE: [(Masks, Numbers); 9] = [
+    // {0, 1}, {0, 2}, {1, 2}, and {1, 3}, which shares nothing with the second
+    ((&[3, 5, 6, 10], &[12_288]), [5, 4, 2, 0]),
+    // {0, 1}, {0, 2}, {0, 3}, and {1, 4}, which shares nothing with the second and the third
+    ((&[3, 5, 9, 18], &[12_288]), [5, 4, 2, 0]),
+    // {0, 1}, {0, 2}, and {1, 3}; then {2, 4}, which shares nothing with the first
+    ((&[3, 5, 10, 20], &[12_288]), [5, 3, 2, 0]),
+    // {11, 13, 24} and {7, 17, 24}: two side by side have partners in the first, two one above the other in the second
+    ((&[16_787_456, 16_908_416], &[12_288]), [7, 2, 1, 12]),
+    (
+        (&[16_787_456, 16_908_416], &[12_288, 135_168]),
+        [7, 1, 2, 12],
+    ),
+    // the four neighbours: 12 and 13 are each other's, 24 is alone
+    ((&[141_440], &[16_789_504]), [7, 1, 1, 24]),
+    // 14 and 15 are at the ends of two rows
+    ((&[141_440], &[49_152]), [7, 1, 1, 14]),
+    // the lower rank, not the lower position
+    ((&[141_440], &[1 << 20, 1 << 24 | 1]), [7, 1, 1, 20]),
+    (
+        (&[141_440], &[6144, 12_288, 135_168, 405_505]),
+        [7, 1, 4, 0],
+    ),
+];
+
+/// 02's files (T-07) that other numbers refuse.
+const OTHERS: [(&str, Numbers); 3] = [
+    ("00 02 80 10 80 40 02 80 60 80 A0 08 00", [8, 6, 0, 0]),
+    ("00 01 C0 D3 1C 01 80 E0 18", [18, 2, 0, 0]),
+    ("", [1, 0, 0, 0]),
+];
+
+/// The refusal of a table, the same by every call.
+fn refused_by_all(table: &TableRecord) -> Refusal {
+    let refusal = check(table).expect_err("refused");
+    let (refused, file) = (Err(refusal), reference::file_of(table));
+    assert_eq!(read(&file).map(drop), refused);
+    assert_eq!(write(table, &mut [9; 300]).map(drop), refused);
+    assert_eq!(write(table, &mut []).map(drop), refused);
+    assert_eq!(load(table), refused);
+    assert_eq!(Table::from_record(*table).map(drop), refused);
+    assert_eq!(Table::from_file(&file).map(drop), refused);
+    refusal
+}
+
+#[test]
+fn witnesses_of_the_request() {
+    for line in WITNESSED.lines() {
+        let (table, file, numbers) = witnessed(line);
+        assert_eq!(reference::file_of(&table), file, "{line}");
+        let refusal = refused_by_all(&table);
+        assert_eq!(refusal.numbers(), numbers, "{line}");
+        let [number, place, witness, position] = numbers;
+        let shown = format!("refused {number} {place} {witness} {position}: ");
+        assert!(refusal.to_string().starts_with(&shown), "{refusal}");
+    }
+    for ((elements, persistents), numbers) in BESIDE {
+        let table = TableRecord::new(elements, persistents);
+        assert_eq!(refused_by_all(&table).numbers(), numbers, "{table:?}");
+    }
+    for (text, numbers) in OTHERS {
+        let refusal = read(&bytes(text)).expect_err("refused");
+        assert_eq!(refusal.numbers(), numbers, "{text}");
+    }
+    let cases = WITNESSED.lines().count() + BESIDE.len() + OTHERS.len();
+    report(&format!("witnesses of the request: {cases} cases"));
+}
+
+/// The median's 56 elements, and one that shares a position with all but one of them; each position, alone; each rank.
+#[test]
+fn every_witness() {
+    let median = median();
+    let elements = &median.elements[..median.count];
+    let ring = elements.iter().fold(0, |all, element| all | element);
+    for (i, element) in elements.iter().enumerate() {
+        let last = 1 << 24 | ring & !element;
+        let table = TableRecord::new(&[elements, &[last]].concat(), &median.persistents[..1]);
+        let expected = [5, median.count + 1, i + 1, 0];
+        assert_eq!(refused_by_all(&table).numbers(), expected);
+    }
+    for position in 0..25 {
+        let table = TableRecord::new(&[ring], &[1 << position]);
+        assert_eq!(refused_by_all(&table).numbers(), [7, 1, 1, position]);
+    }
+    for i in 0..MAX_RANKS {
+        let mut persistents = [6144, 12_288, 135_168, 405_504];
+        persistents[i] |= 1;
+        let table = TableRecord::new(&[141_440], &persistents);
+        assert_eq!(refused_by_all(&table).numbers(), [7, 1, i + 1, 0]);
+    }
+}
+
+/// The positions of a mask as rows and columns, in the order of their numbers.
+fn points(mask: u32) -> BTreeSet<(i32, i32)> {
+    let numbers = (0..25).filter(|n| mask >> n & 1 == 1);
+    numbers.map(|n| (n / 5, n % 5)).collect()
+}
+
+/// The position numbers of a persistent element from which no way to a point of it is an offset of the element.
+fn alone(persistent: u32, element: u32) -> Vec<usize> {
+    let (persistent, element) = (points(persistent), points(element));
+    let leads = |b: &(i32, i32), c: &(i32, i32)| element.contains(&(c.0 - b.0 + 2, c.1 - b.1 + 2));
+    let lonely = persistent
+        .iter()
+        .filter(|b| !persistent.iter().any(|c| leads(b, c)));
+    lonely.map(|b| (5 * b.0 + b.1) as usize).collect()
+}
+
+/// All that 5 and 7 have against a table in range.
+fn faults(table: &TableRecord) -> BTreeSet<Numbers> {
+    let mut faults = BTreeSet::new();
+    for i in 0..table.count {
+        let element = table.elements[i];
+        for j in 0..i {
+            if points(element).is_disjoint(&points(table.elements[j])) {
+                faults.insert([5, i + 1, j + 1, 0]);
+            }
+        }
+        for rank in 1..=table.ranks {
+            let positions = alone(table.persistents[rank - 1], element);
+            faults.extend(positions.iter().map(|n| [7, i + 1, rank, *n]));
+        }
+    }
+    faults
+}
+
+/// An accepted table whose elements lose some points and get one in common, so that several ranks miss several elements.
+fn thinned(random: &mut Random) -> TableRecord {
+    let table = random_table(random, 12);
+    let common = 1 << random.below(12);
+    let mut elements = table.elements[..table.count].to_vec();
+    for element in &mut elements {
+        let lost: u32 = (0..25).filter(|_| random.percent(10)).map(|n| 1 << n).sum();
+        *element = *element & !lost | common;
+    }
+    elements.sort_unstable();
+    elements.dedup();
+    TableRecord::new(&elements, &table.persistents[..table.ranks])
+}
+
+/// Whether a lower rank than the one that is named misses a later element.
+fn is_crossed(refusal: &Refusal, faults: &BTreeSet<Numbers>) -> bool {
+    let lower = |&[number, _, rank, _]: &Numbers| number == 7 && rank < refusal.witness;
+    refusal.reason == Reason::NotPersistent && faults.iter().any(lower)
+}
+
+/// The refusal is the least of all faults: 5 before 7, then by place, witness and position.
+#[test]
+fn least_fault() {
+    let mut random = Random::new(14);
+    let mut refusals = Vec::new();
+    let (mut several, mut crossed) = (0, 0);
+    for case in 0..30_000 {
+        let table = match case % 3 {
+            0 => in_range(&mut random),
+            1 => misses(&mut random),
+            _ => thinned(&mut random),
+        };
+        match check(&table).map_err(|refusal| refusal.reason) {
+            Ok(()) => assert!(faults(&table).is_empty(), "{table:?}"),
+            Err(Reason::Disjoint | Reason::NotPersistent) => {
+                let (faults, refusal) = (faults(&table), refused_by_all(&table));
+                assert_eq!(faults.first(), Some(&refusal.numbers()), "{table:?}");
+                several += usize::from(faults.len() > 1);
+                crossed += usize::from(is_crossed(&refusal, &faults));
+                refusals.push(refusal);
+            }
+            Err(_) => {} // out of range
+        }
+    }
+    let refused = refusals.len();
+    report(&format!(
+        "tables refused by 5 and 7: {refused}, with several faults: {several}, with a lower rank that misses later: {crossed}"
+    ));
+    assert!(several >= refused / 2 && crossed >= 500);
+    assert_all_seen(&refusals);
+}
+
+/// Many places and witnesses, every rank and every position.
+fn assert_all_seen(refusals: &[Refusal]) {
+    let seen = |reason, field: fn(&Refusal) -> usize| -> BTreeSet<usize> {
+        let given = refusals.iter().filter(|refusal| refusal.reason == reason);
+        given.map(field).collect()
+    };
+    assert!(seen(Reason::Disjoint, |r| r.place).len() >= 10);
+    assert!(seen(Reason::Disjoint, |r| r.witness).len() >= 5);
+    assert!(seen(Reason::NotPersistent, |r| r.place).len() >= 20);
+    let ranks = seen(Reason::NotPersistent, |r| r.witness);
+    assert!(ranks.into_iter().eq(1..=MAX_RANKS));
+    let positions = seen(Reason::NotPersistent, |r| r.position);
+    assert!(positions.into_iter().eq(0..25));
 }

@@ -46,10 +46,10 @@ fn tables() {
     assert_eq!(refused(&[0x00, 0x00]), Refusal::of(Reason::Count));
     assert_eq!(refused(&[0x81, 0x00]), Refusal::of(Reason::Groups));
     let apart = TableRecord::new(&[2048, 8192], &[12_288]);
-    let disjoint = Refusal::at(Reason::Disjoint, 2);
+    let disjoint = Refusal::witnessed(Reason::Disjoint, 2, 1, 0);
     assert_eq!(library::check_table(&apart), Err(disjoint));
     let single = TableRecord::new(&[469_440], &[4096]);
-    let misses = Refusal::at(Reason::NotPersistent, 1);
+    let misses = Refusal::witnessed(Reason::NotPersistent, 1, 1, 12);
     assert_eq!(library::check_table(&single), Err(misses));
     report("trial tables: 8 cases");
 }
@@ -93,8 +93,7 @@ const FILES: [(&str, u32, usize); 26] = [
 #[test]
 fn files_of_the_request() {
     for (bytes, number, place) in FILES {
-        let bytes = bytes.split(' ').map(|b| u8::from_str_radix(b, 16));
-        let file: Vec<u8> = bytes.collect::<Result<_, _>>().expect("bytes");
+        let file = common::tables::bytes(bytes);
         let answer = read(&file);
         assert_eq!(number_and_place(answer), (number, place), "{file:02X?}");
         if let Ok(table) = answer {

@@ -127,13 +127,16 @@ fn damage_size(record: &mut JobRecord, random: &mut Random) {
     }
 }
 
+/// Among the damages are tables that a load refuses by 5 and 7, with a witness: in a record they are 14's like any other.
 fn damage_table(table: &mut TableRecord, random: &mut Random) {
-    match random.below(6) {
+    match random.below(8) {
         0 => table.count = *random.choose(&[0, 65, usize::MAX]),
         1 => table.ranks = *random.choose(&[0, 5, usize::MAX]),
         2 => table.persistents[0] = 0,
         3 => table.persistents[random.below(MAX_RANKS)] = u32::MAX,
         4 => table.elements[0] |= 4096,
+        5 => *table = TableRecord::new(&[65, 129, 192, 16_777_217], &[12_288]),
+        6 => *table = TableRecord::new(&[141_440], &[12_288, 266_240]),
         _ => table.elements[63] = 1,
     }
 }

@@ -1,6 +1,6 @@
 -- The libraries' answers as the structs that C sees: what is said of a refusal, and the values of each case, as they are defined beside the enums.
--- Number 0 is "accepted"; a refused answer has 01's number and place, all else zero.
---     checked r               number and place, where r is the refusal, or zeros
+-- Number 0 is "accepted"; a refused answer has number, place, witness and position, all else zero.
+--     checked r               these four, where r is the refusal, or zeros
 --     tableAnswer r t         and a table
 --     fileLength r n          and a file's length
 --     imageSize r w h         and an image's width and height
@@ -31,25 +31,25 @@ use Rattle.verdict.specs.declared.Verdict.{Verdict}
 use Rattle.verdict.specs.declared.Written.{Written}
 
 abbrev pub checked : Refusal → Checked
-checked r = record { number = r .number; place = r .place }
+checked r = record { number = r .number; place = r .place; witness = r .witness; position = r .position }
 
 abbrev pub tableAnswer : Refusal → Table → TableAnswer
-tableAnswer r t = record { number = r .number; place = r .place; table = t }
+tableAnswer r t = record { number = r .number; place = r .place; witness = r .witness; position = r .position; table = t }
 
 abbrev pub fileLength : Refusal → ℕ → FileLength
-fileLength r n = record { number = r .number; place = r .place; length = n }
+fileLength r n = record { number = r .number; place = r .place; witness = r .witness; position = r .position; length = n }
 
 abbrev pub imageSize : Refusal → ℕ → ℕ → ImageSize
-imageSize r w h = record { number = r .number; place = r .place; width = w; height = h }
+imageSize r w h = record { number = r .number; place = r .place; witness = r .witness; position = r .position; width = w; height = h }
 
 abbrev pub progress : Refusal → ℕ → Progress
-progress r s = record { number = r .number; place = r .place; stable = s }
+progress r s = record { number = r .number; place = r .place; witness = r .witness; position = r .position; stable = s }
 
 abbrev pub part : Refusal → ℕ → ℕ → Part
-part r a n = record { number = r .number; place = r .place; area = a; length = n }
+part r a n = record { number = r .number; place = r .place; witness = r .witness; position = r .position; area = a; length = n }
 
 abbrev pub figuresAnswer : Refusal → ℤ → ℕ → FiguresAnswer
-figuresAnswer r b c = record { number = r .number; place = r .place; balance = b; cover = c }
+figuresAnswer r b c = record { number = r .number; place = r .place; witness = r .witness; position = r .position; balance = b; cover = c }
 
 abbrev pub ofVerdict : Verdict → Checked
 ofVerdict v = checked (said v)

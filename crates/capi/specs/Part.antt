@@ -1,5 +1,5 @@
 -- View for C (01: a part of one of the two areas; a refused view shows an empty part). C is told the area and how many bytes.
---     partOf s       number and place of 14 and 16; area 1 or 2 by the parity of passes, and width × height; 0 and 0 where it is refused
+--     partOf s       the refusal by 14 and 16; area 1 or 2 by the parity of passes, and width × height; 0 and 0 where it is refused
 --     partAs v s     the same by the verdict
 --     areaOf n s     the area of a number: 1 the first, 2 the second, else none
 --     shown p s      the bytes that an answer names: the first of its area

@@ -1,4 +1,4 @@
-// The libraries' answers as C structs. Number 0 is "accepted"; in a refused answer all but number and place is zero.
+// The libraries' answers as C structs. Number 0 is "accepted"; in a refused answer all but the refusal is zero.
 use crate::Checked;
 use crate::FiguresAnswer;
 use crate::FileLength;
@@ -95,6 +95,8 @@ fn checked(said: Refusal) -> Checked
     Checked {
         number: said.number,
         place: said.place,
+        witness: said.witness,
+        position: said.position,
     }
 }
 
@@ -104,6 +106,8 @@ fn table_answer(said: Refusal, table: Table) -> TableAnswer
     TableAnswer {
         number: said.number,
         place: said.place,
+        witness: said.witness,
+        position: said.position,
         table,
     }
 }
@@ -114,6 +118,8 @@ fn file_length(said: Refusal, length: usize) -> FileLength
     FileLength {
         number: said.number,
         place: said.place,
+        witness: said.witness,
+        position: said.position,
         length,
     }
 }
@@ -124,6 +130,8 @@ fn image_size(said: Refusal, width: usize, height: usize) -> ImageSize
     ImageSize {
         number: said.number,
         place: said.place,
+        witness: said.witness,
+        position: said.position,
         width,
         height,
     }
@@ -135,6 +143,8 @@ fn progress(said: Refusal, stable: u32) -> Progress
     Progress {
         number: said.number,
         place: said.place,
+        witness: said.witness,
+        position: said.position,
         stable,
     }
 }
@@ -145,6 +155,8 @@ pub(crate) fn part(said: Refusal, area: u32, length: usize) -> Part
     Part {
         number: said.number,
         place: said.place,
+        witness: said.witness,
+        position: said.position,
         area,
         length,
     }
@@ -156,6 +168,8 @@ fn figures_answer(said: Refusal, balance: i64, cover: usize) -> FiguresAnswer
     FiguresAnswer {
         number: said.number,
         place: said.place,
+        witness: said.witness,
+        position: said.position,
         balance,
         cover,
     }

@@ -24,17 +24,21 @@ ghost use Rattle.job.specs.Core.{at};
 ghost use Rattle.table.specs.File.{readTable, writtenTable, tableOutput};
 ghost use Rattle.table.specs.Record.{recordVerdict};
 
-// What C gets as an answer. Number 0 is "accepted"; else 01's number and place, and all else zero.
+// What C gets as an answer. Number 0 is "accepted"; else the refusal, and all else zero.
 #[repr(C)]
 pub struct Checked {
     pub number: u32,
     pub place: usize,
+    pub witness: usize,
+    pub position: usize,
 }
 
 #[repr(C)]
 pub struct TableAnswer {
     pub number: u32,
     pub place: usize,
+    pub witness: usize,
+    pub position: usize,
     pub table: Table,
 }
 
@@ -42,6 +46,8 @@ pub struct TableAnswer {
 pub struct ImageSize {
     pub number: u32,
     pub place: usize,
+    pub witness: usize,
+    pub position: usize,
     pub width: usize,
     pub height: usize,
 }
@@ -50,6 +56,8 @@ pub struct ImageSize {
 pub struct FileLength {
     pub number: u32,
     pub place: usize,
+    pub witness: usize,
+    pub position: usize,
     pub length: usize,
 }
 
@@ -58,6 +66,8 @@ pub struct FileLength {
 pub struct Progress {
     pub number: u32,
     pub place: usize,
+    pub witness: usize,
+    pub position: usize,
     pub stable: u32,
 }
 
@@ -66,6 +76,8 @@ pub struct Progress {
 pub struct Part {
     pub number: u32,
     pub place: usize,
+    pub witness: usize,
+    pub position: usize,
     pub area: u32,
     pub length: usize,
 }
@@ -74,6 +86,8 @@ pub struct Part {
 pub struct FiguresAnswer {
     pub number: u32,
     pub place: usize,
+    pub witness: usize,
+    pub position: usize,
     pub balance: i64,
     pub cover: usize,
 }

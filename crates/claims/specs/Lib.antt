@@ -10,3 +10,4 @@ pub mod Padding
 pub mod Ranks
 pub mod Trials
 pub mod Walk
+pub mod Witness

@@ -13,7 +13,9 @@ pub(crate) fn refused(refusal: Refusal) {
     let mut line = [0u8; ROOM];
     let end = put(&mut line, 0, b"refused ");
     let end = number(&mut line, end, refusal.number as usize, b' ');
-    let end = number(&mut line, end, refusal.place, b'\n');
+    let end = number(&mut line, end, refusal.place, b' ');
+    let end = number(&mut line, end, refusal.witness, b' ');
+    let end = number(&mut line, end, refusal.position, b'\n');
     print(&line[..end]);
 }
 

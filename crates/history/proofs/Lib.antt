@@ -30,3 +30,4 @@ pub mod Demand2
 pub mod Demand3
 pub mod SameSource
 pub mod Padding
+pub mod Witness

@@ -1,11 +1,15 @@
--- A list of calls whose every step is computed, with what 01 says of it; and covers and empty records, with what 02 (T-05, T-01) says of them.
+-- A list of calls whose every step is computed, with what 01 says of it; and covers, empty records and bad tables, with what 02 (T-05, T-01, T-07)
+-- says of them.
 --     row c w       after the call c: refusal number, stage, passes, added, removed, black in view, cover, history (0 empty, 1 held, 2 settled)
 --     trace cs w    the rows of a list of calls
+--     dotFile       a 5 × 5 image, black only in the middle
 --     cases-met     one theorem, computed
 --     covers        black pixels, pixels, and the cover expected of them
 --     covers-met    computed
 --     emptyWith t   an empty record, but for its table
 --     tables        one field of each is not zero; unsound-met: computed, with such a table it is unsound
+--     heldWith t    a record of a blank 5 × 5 image, with a table
+--     badTables     with the refusal of each; loads-met: computed, a load passes it on; held-met: computed, held in a record the table is 14 with zeros
 -- Assumes nothing.
 use mathlib.Core.Bool.{true, false, cond}
 use mathlib.Core.List.{List, [], _∷_, _++_, map}
@@ -25,8 +29,11 @@ use Rattle.history.specs.View.{viewOf, cover, figuresOf}
 use Rattle.seq.specs.Lists.{sameList}
 use Rattle.table.specs.declared.Table.{Table}
 use Rattle.table.specs.Record.{zeroTable}
-use Rattle.table.specs.Sample.{filled}
+use Rattle.table.specs.Sample.{filled, listed}
 use Rattle.verdict.specs.Answers.{said}
+use Rattle.verdict.specs.declared.Refusal.{Refusal}
+use Rattle.verdict.specs.declared.Verdict.the-variants.{Refused}
+use Rattle.verdict.specs.Rules.{witnessed, refusal}
 
 abbrev standing : History → ℕ
 standing empty = 0
@@ -50,7 +57,7 @@ trace [] w = []
 trace (c ∷ cs) w = row c w ++ trace cs (step c w)
 
 -- the file of 5 × 5 pixels, black only at (2, 2)
-abbrev dotFile : List ℕ
+abbrev pub dotFile : List ℕ
 dotFile = 0x50 ∷ 0x34 ∷ 0x0A ∷ 0x35 ∷ 0x20 ∷ 0x35 ∷ 0x0A ∷ 0x00 ∷ 0x00 ∷ 0x20 ∷ 0x00 ∷ 0x00 ∷ []
 
 abbrev calls : List Call
@@ -115,7 +122,7 @@ pub covers-met : map (λ c. cover (c .0) (c .1)) covers ≡ map (λ c. c .2) cov
 unfolding computing
 covers-met = refl
 
-abbrev emptyWith : Table → State
+abbrev pub emptyWith : Table → State
 emptyWith t = record { job = record { stage = 0; width = 0; height = 0; passes = 0; added = 0; removed = 0; table = t }; first = []; second = [] }
 
 abbrev pub tables : List Table
@@ -132,3 +139,26 @@ tables =
 pub unsound-met : map (λ t. unsound (emptyWith t)) (zeroTable ∷ tables) ≡ false ∷ map (λ t. true) tables
 unfolding computing
 unsound-met = refl
+
+abbrev pub heldWith : Table → State
+heldWith t =
+    record {
+      job = record { stage = 1; width = 5; height = 5; passes = 0; added = 0; removed = 0; table = t };
+      first = replicate 25 0;
+      second = replicate 25 0;
+    }
+
+abbrev pub badTables : List (Table × Refusal)
+badTables =
+    (listed (192 ∷ 320 ∷ 384 ∷ 2560 ∷ []) (12288 ∷ []), witnessed 5 4 1 0)
+    ∷ (listed (10244 ∷ 131204 ∷ []) (12288 ∷ 135168 ∷ []), witnessed 7 1 2 12)
+    ∷ (listed (141440 ∷ []) (12288 ∷ 12288 ∷ []), refusal 6 4)
+    ∷ []
+
+pub loads-met : map (λ c. refusalOf (answerOf (load (c .0) (fromFile dotFile)) (emptyWith zeroTable))) badTables ≡ map (λ c. Refused (c .1)) badTables
+unfolding computing
+loads-met = refl
+
+pub held-met : map (λ c. refusalOf (answerOf pass (heldWith (c .0)))) badTables ≡ map (λ c. Refused (refusal 14 0)) badTables
+unfolding computing
+held-met = refl

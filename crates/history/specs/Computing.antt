@@ -10,7 +10,8 @@ unfolding Rattle.seq.specs.Bits.bit Rattle.seq.specs.Bits.bitsOf Rattle.seq.s
     Rattle.table.specs.Record.masks Rattle.table.specs.Record.persistents Rattle.table.specs.Record.badCount Rattle.table.specs.Record.badRanks
     Rattle.table.specs.Record.notRising Rattle.table.specs.Record.badMask Rattle.table.specs.Record.badElement
     Rattle.table.specs.Record.badPersistent Rattle.table.specs.Record.badPlace Rattle.table.specs.Record.disjointFrom
-    Rattle.table.specs.Record.missedBy Rattle.table.specs.Record.persistentPlace Rattle.table.specs.Record.recordVerdict
+    Rattle.table.specs.Record.missedBy Rattle.table.specs.Record.missedAt Rattle.table.specs.Record.persistentPlace
+    Rattle.table.specs.Record.recordVerdict
     Rattle.image.specs.File.rasterPixel Rattle.image.specs.File.pixelsOf Rattle.image.specs.File.fileVerdict
     Rattle.image.specs.File.imageVerdict Rattle.image.specs.File.imageRead Rattle.image.specs.File.imageArea Rattle.image.specs.File.pixelVerdict
     Rattle.image.specs.File.rowByte Rattle.image.specs.File.imageBytes Rattle.image.specs.File.writeVerdict Rattle.image.specs.File.imageWritten

@@ -12,18 +12,17 @@ use native.Mathlib.Omega.{arith}
 use borrow.Author.Tests.{not-false}
 use Rattle.seq.specs.Bits.{bit}
 use Rattle.seq.specs.Lists.{isSome}
-use Rattle.seq.specs.Tab.{first}
-use Rattle.seq.proofs.Members.{not-some, take-place}
+use Rattle.seq.proofs.Members.{take-place}
 use Rattle.seq.proofs.Tab.{first-nothing}
 use Rattle.seq.proofs.Tests.{between, lt-or-le, or-none-left, or-none-right}
 use Rattle.table.specs.declared.Table.{Table}
 use Rattle.table.specs.Mask.{centre, positions, validMask, meets, sumInside, sum, persistentFor}
-use Rattle.table.specs.Record.{maxElements, maxRanks, element, persistentAt, masks, persistents, badCount, badElement, badPersistent, disjointFrom, missedBy, meetRule, persistRule, recordVerdict}
+use Rattle.table.specs.Record.{maxElements, maxRanks, element, persistentAt, masks, persistents, badCount, badElement, badPersistent, disjointFrom, missedBy, apartRefusal, missedRefusal, meetRule, persistRule, recordVerdict}
 use Rattle.table.proofs.Masks.{valid-position, meets-shared, persistent-partner}
 use Rattle.table.proofs.Places.{mask-valid, mask-rises, places-used, places-left}
-use Rattle.table.proofs.Verdicts.{count-le, ranks-le, Sound, record-sound}
+use Rattle.table.proofs.Verdicts.{lowestApart, lowestMissed, count-le, ranks-le, meets-each, persistent-each, Sound, record-sound}
 use Rattle.verdict.specs.declared.Verdict.the-variants.{Accepted}
-use Rattle.verdict.proofs.Rules.{orElse-left, orElse-right, refuseAt-accepted}
+use Rattle.verdict.proofs.Rules.{orElse-left, orElse-right, refuseBy-accepted}
 
 pub record AcceptedTable (t : Table) : Type 0 where
   -- rule 3
@@ -95,17 +94,15 @@ module _ (t : Table) (s : Sound t) where
 
   -- rule 5 at two places
   meet-at : (j k : ℕ) → j < k → k < t .count → meets (element t k) (element t j) ≡ true
-  unfolding disjointFrom
   meet-at j k i l =
-      let none = refuseAt-accepted (first (λ n. isSome (disjointFrom t n)) (t .count)) 5 suc (orElse-left (meetRule t) (persistRule t) (s .related)) in
-      not-false _ (first-nothing _ k (not-some _ (first-nothing _ (t .count) none k l)) j i)
+      let none = refuseBy-accepted (lowestApart t) (apartRefusal t) (orElse-left (meetRule t) (persistRule t) (s .related)) in
+      meets-each t k (first-nothing (λ n. isSome (disjointFrom t n)) (t .count) none k l) j i
 
   -- rule 7 at a place
   pub persist-at : (k r : ℕ) → k < t .count → r < t .ranks → persistentFor (persistentAt t r) (element t k) ≡ true
-  unfolding missedBy
   persist-at k r l i =
-      let none = refuseAt-accepted (first (λ n. isSome (missedBy t n)) (t .count)) 7 suc (orElse-right (meetRule t) (persistRule t) (s .related)) in
-      not-false _ (first-nothing _ (t .ranks) (not-some _ (first-nothing _ (t .count) none k l)) r i)
+      let none = refuseBy-accepted (lowestMissed t) (missedRefusal t) (orElse-right (meetRule t) (persistRule t) (s .related)) in
+      persistent-each t k (first-nothing (λ n. isSome (missedBy t n)) (t .count) none k l) r i
 
   -- any two elements, by their places: the later meets the earlier, and an element has a position
   places-meet : (k j : ℕ) → k < t .count → j < t .count → Shared (element t k) (element t j)

@@ -1,9 +1,10 @@
 -- Check lists in parts, and those that go number by number: `rules k` for each k below a bound.
 --     four-accepted                        four verdicts in a row
 --     part-refuses, part-accepts, part-split     check lists in parts: the first part refuses; it accepts; where all of them accept
+--     says-each                            what is said of each number is said of the list
 --     judge-more, judge-each, judge-at     one number more that accepts; each that is accepted; the first that refuses
 -- Assumes nothing.
-use mathlib.Core.List.{List, _∷_, map}
+use mathlib.Core.List.{List, [], _∷_, map}
 use mathlib.Core.Path.{_≡_, refl, sym, ap, ap₂, _∙_}
 use Prim.Native.Nat.{ℕ, suc, _<_}
 use native.Mathlib.Decide.{le-ind}
@@ -15,7 +16,9 @@ use Rattle.seq.proofs.Tab.{upTo-intro}
 use Rattle.verdict.specs.declared.Refusal.{Refusal}
 use Rattle.verdict.specs.declared.Verdict.{Verdict}
 use Rattle.verdict.specs.declared.Verdict.the-variants.{Accepted, Refused}
+use Rattle.verdict.specs.Numbers.{Says, accepts}
 use Rattle.verdict.specs.Rules.{orElse, judge}
+use Rattle.verdict.proofs.Numbers.{says-append}
 use Rattle.verdict.proofs.Rules.{refused-accepted, judge-append, judge-accepted, accepted-judge, orElse-left, orElse-right}
 
 -- where four verdicts in a row accept, each does
@@ -39,6 +42,10 @@ module _ (part : List Verdict) (parts : List (List Verdict)) where
       (orElse-left (judge part) (judge (join parts)) w, orElse-right (judge part) (judge (join parts)) w)
 
 module _ (rules : ℕ → List Verdict) where
+  pub says-each : {P : Refusal → Type 0} → ((k : ℕ) → Says P (judge (rules k))) → (ks : List ℕ) → Says P (judge (join (map rules ks)))
+  says-each h [] = accepts
+  says-each h (k ∷ ks) = says-append (rules k) (join (map rules ks)) (h k) (says-each h ks)
+
   -- the verdict on the numbers below k
   abbrev pub below : ℕ → Verdict
   below k = judge (join (map rules (upTo k)))

@@ -20,3 +20,4 @@ pub mod RoundTrip
 pub mod Steps
 pub mod Tables
 pub mod Verdicts
+pub mod Witness

@@ -4,7 +4,7 @@
 --     mask-valid, good-valid, mask-rises     a mask that is not bad is a valid mask, above the one before
 --     places-used, places-left    what a list without bad places has in the places that are in use, and in the others
 --     place-lt                no mask of a list without bad places has a bit above position 24
---     found-some, found-none  what a search answers, and whether it found something
+--     found-none              a search that found nothing
 --     missed-is               an element is missed where a position of the persistent element has no partner in it
 -- Assumes nothing.
 use mathlib.Core.Bool.{Bool, true, false, not, _&&_, _||_, Bool·not-not}
@@ -24,7 +24,7 @@ use Rattle.seq.proofs.Tab.{first-nothing}
 use Rattle.seq.proofs.Tests.{or-none-left, or-none-right}
 use Rattle.table.specs.declared.mask.Kind.{Kind}
 use Rattle.table.specs.declared.mask.Search.{Search}
-use Rattle.table.specs.declared.mask.Search.the-variants.{Found, Nothing}
+use Rattle.table.specs.declared.mask.Search.the-variants.{Nothing}
 use Rattle.table.specs.Code.Search.{found, leavesCentre, badAfter, badOf, lowestBad}
 use Rattle.table.specs.Mask.{positionCount, centre, validMask, unpartnered, persistentFor}
 use Rattle.table.specs.Record.{notRising, badMask, badPlace}
@@ -84,10 +84,7 @@ pub place-lt : (kind : Kind) (ms : List ℕ) (n : ℕ) → lowestBad kind ms n �
 unfolding lowestBad
 place-lt kind ms n e m k h = mask-lt (getD ms k 0) (good-valid kind ms k (places-used ms n (badOf kind ms) (length ms) e k (lt-of-lt-of-le h m) h))
 
--- what a search answers, and whether it found something
-pub found-some : {s : Search} {o : Option ℕ} {n : ℕ} → found s ≡ o → s ≡ Found n → isSome o ≡ true
-found-some e q = ap isSome (sym e ∙ ap found q)
-
+-- a search that found nothing
 pub found-none : {s : Search} {o : Option ℕ} → found s ≡ o → s ≡ Nothing → isSome o ≡ false
 found-none e q = ap isSome (sym e ∙ ap found q)
 

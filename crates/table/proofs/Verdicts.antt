@@ -1,54 +1,61 @@
 -- The record's verdict, rule by rule.
---     search-lt, search-refuses, search-accepts      what a search found is below its bound; its rule refuses there; or accepts
+--     search-lt           what a search found is below its bound
 --     count-le, ranks-le                the rules 3 and 18 bound the counts
---     lowestElement t, lowestPersistent t      what the rules 4 and 6 find; places-search, ranks-search: as the code searches for it;
---         element-found, persistent-found: it is a place
+--     lowestElement t, lowestPersistent t, lowestApart t, lowestMissed t      what the rules 4, 6, 5 and 7 find
+--     places-search, ranks-search    as the code searches for it; element-found, persistent-found: it is a place
+--     misses-at, misses-nowhere      what an answer on the persistent elements says; apart-lt, missed-lt: the witnesses of the rules 5 and 7;
+--         meets-each, persistent-each: an element that has none
+--     meet-refused, persist-refused     these rules, where something is found
 --     record-count, record-place, record-persistents       the first rule that fails speaks
 --     ranks-refused, persistent-refused, persistents-accepted     the first of the rules behind those on the elements
 --     Sound t, record-sound, sound-record    what an accepted record has passed, both ways
 --     record-numbers      the numbers that a record is refused by
 -- Assumes nothing.
-use mathlib.Core.Bool.{Bool, true, false}
+use mathlib.Core.Bool.{Bool, true, false, not}
 use mathlib.Core.List.{[], _∷_}
 use mathlib.Core.Option.{Option, none, some}
 use mathlib.Core.Path.{_≡_, refl, sym, ap, _∙_}
 use Prim.Native.Nat.{ℕ, suc, _+_, _≤_, _<_}
 use native.Mathlib.Numerals.{add-one}
+use native.Mathlib.Omega.{arith}
 use borrow.Author.Tests.{not-false}
 use lib.ListN.{length}
 use Rattle.seq.specs.Lists.{isSome}
 use Rattle.seq.specs.Tab.{first}
-use Rattle.seq.proofs.Tab.{first-found}
+use Rattle.seq.proofs.Members.{not-some}
+use Rattle.seq.proofs.Tab.{first-found, first-nothing}
 use Rattle.seq.proofs.Tests.{between}
 use Rattle.table.specs.declared.Table.{Table}
 use Rattle.table.specs.declared.mask.Kind.the-variants.{Element, Persistent}
 use Rattle.table.specs.declared.mask.Search.{Search}
-use Rattle.table.specs.declared.mask.Search.the-variants.{Found, Nothing}
-use Rattle.table.specs.Code.Search.{found, badOf, lowestBad, behindElements}
-use Rattle.table.specs.Record.{maxElements, maxRanks, badCount, badRanks, badElement, badPersistent, badPlace, disjointFrom, missedBy, persistentPlace, countRule, placesRule, ranksRule, persistentRule, meetRule, persistRule, recordVerdict}
+use Rattle.table.specs.declared.mask.Search.the-variants.{Found}
+use Rattle.table.specs.declared.record.Miss.{Miss}
+use Rattle.table.specs.declared.record.Miss.the-variants.{At, Nowhere}
+use Rattle.table.specs.Code.Search.{found, Misses, nowhere, at, badOf, lowestBad, behindElements}
+use Rattle.table.specs.Record.{maxElements, maxRanks, element, persistentAt, badCount, badRanks, badElement, badPersistent, badPlace, disjointFrom, missedBy, missedAt, apartRefusal, missedRefusal, persistentPlace, countRule, placesRule, ranksRule, persistentRule, meetRule, persistRule, recordVerdict}
+use Rattle.table.specs.Mask.{meets, unpartnered, persistentFor}
 use Rattle.table.proofs.Judging.{four-accepted}
 use Rattle.verdict.specs.declared.Verdict.the-variants.{Accepted, Refused}
 use Rattle.verdict.specs.Numbers.{by, OneOf, accepts}
-use Rattle.verdict.specs.Rules.{refusal, refuseAt, orElse, judge}
-use Rattle.verdict.proofs.Numbers.{says-if, says-at, says-or}
+use Rattle.verdict.specs.Rules.{witnessed, refusal, orElse, judge}
+use Rattle.verdict.proofs.Numbers.{says-if, says-by, says-at, says-or}
 use Rattle.verdict.proofs.Rules.{refuseIf-accepted, refuseAt-accepted, orElse-accepted, orElse-left, orElse-right}
 
 pub search-lt : (p : ℕ → Bool) (n : ℕ) {s : Search} {k : ℕ} → found s ≡ first p n → s ≡ Found k → k < n
 search-lt p n {s} {k} e q = first-found p n k (sym e ∙ ap found q) .below
 
-pub search-refuses : {s : Search} {o : Option ℕ} {k : ℕ} → found s ≡ o → s ≡ Found k → (number : ℕ) → refuseAt o number suc ≡ Refused (refusal number (k + 1))
-search-refuses {s} {o} {k} e q number =
-    ap (λ (r : Option ℕ). refuseAt r number suc) (sym e ∙ ap found q) ∙ ap (λ (i : ℕ). Refused (refusal number i)) (sym (add-one k))
-
-pub search-accepts : {s : Search} {o : Option ℕ} → found s ≡ o → s ≡ Nothing → (number : ℕ) → refuseAt o number suc ≡ Accepted
-search-accepts e q number = ap (λ (r : Option ℕ). refuseAt r number suc) (sym e ∙ ap found q)
-
--- what the rules 4 and 6 find
+-- what the rules 4, 6, 5 and 7 find
 abbrev pub lowestElement : Table → Option ℕ
 lowestElement t = first (badPlace (t .elements) (t .count) (badElement t)) maxElements
 
 abbrev pub lowestPersistent : Table → Option ℕ
 lowestPersistent t = first (badPlace (t .persistents) (t .ranks) (badPersistent t)) maxRanks
+
+abbrev pub lowestApart : Table → Option ℕ
+lowestApart t = first (λ k. isSome (disjointFrom t k)) (t .count)
+
+abbrev pub lowestMissed : Table → Option ℕ
+lowestMissed t = first (λ k. isSome (missedBy t k)) (t .count)
 
 pub ranks-le : (least n : ℕ) → badRanks least n ≡ false → (least ≤ n) × (n ≤ maxRanks)
 unfolding badRanks
@@ -74,6 +81,19 @@ element-found t = search-lt (badPlace (t .elements) (t .count) (badElement t)) m
 pub persistent-found : (t : Table) {s : Search} {r : ℕ} → found s ≡ lowestPersistent t → s ≡ Found r → r < maxRanks
 persistent-found t = search-lt (badPlace (t .persistents) (t .ranks) (badPersistent t)) maxRanks
 
+-- what an answer on the persistent elements says
+module _ {t : Table} {k : ℕ} where
+  pub misses-at : {m : Miss} {r b : ℕ} → Misses t k m → m ≡ At r b → (missedBy t k ≡ some r) × (unpartnered (persistentAt t r) (element t k) ≡ some b)
+  misses-at (nowhere e) q = absurd (let z : _≡_ {A = ℕ} 0 1 = cc in omega arith)
+  misses-at {r = r} {b = b} (at {r = i} {b = c} e p) q =
+      let same : i ≡ r = cc in
+      let here : c ≡ b = cc in
+      (e ∙ ap some same, ap (λ (n : ℕ). unpartnered (persistentAt t n) (element t k)) (sym same) ∙ p ∙ ap some here)
+
+  pub misses-nowhere : {m : Miss} → Misses t k m → m ≡ Nowhere → missedBy t k ≡ none
+  misses-nowhere (nowhere e) q = e
+  misses-nowhere (at e p) q = absurd (let z : _≡_ {A = ℕ} 0 1 = cc in omega arith)
+
 module _ (t : Table) where
   pub record-count : badCount (t .count) ≡ true → recordVerdict t ≡ Refused (refusal 3 0)
   unfolding recordVerdict badCount
@@ -97,6 +117,32 @@ module _ (t : Table) where
 
     pub persistents-accepted : lowestPersistent t ≡ none → judge (behindElements t) ≡ orElse (meetRule t) (persistRule t)
     persistents-accepted e = simp (ranked, e, orElse-accepted)
+
+  -- the witnesses: an earlier element, a persistent element of the table
+  pub apart-lt : (k : ℕ) {j : ℕ} → disjointFrom t k ≡ some j → j < k
+  unfolding disjointFrom
+  apart-lt k {j} e = first-found (λ i. not (meets (element t k) (element t i))) k j e .below
+
+  pub missed-lt : (k : ℕ) {r : ℕ} → missedBy t k ≡ some r → r < t .ranks
+  unfolding missedBy
+  missed-lt k {r} e = first-found (λ i. not (persistentFor (persistentAt t i) (element t k))) (t .ranks) r e .below
+
+  -- an element that has none
+  pub meets-each : (k : ℕ) → isSome (disjointFrom t k) ≡ false → (j : ℕ) → j < k → meets (element t k) (element t j) ≡ true
+  unfolding disjointFrom
+  meets-each k e j l = not-false _ (first-nothing (λ i. not (meets (element t k) (element t i))) k (not-some _ e) j l)
+
+  pub persistent-each : (k : ℕ) → isSome (missedBy t k) ≡ false → (r : ℕ) → r < t .ranks → persistentFor (persistentAt t r) (element t k) ≡ true
+  unfolding missedBy
+  persistent-each k e r l = not-false _ (first-nothing (λ i. not (persistentFor (persistentAt t i) (element t k))) (t .ranks) (not-some _ e) r l)
+
+  pub meet-refused : {k j : ℕ} → lowestApart t ≡ some k → disjointFrom t k ≡ some j → meetRule t ≡ Refused (witnessed 5 (k + 1) (j + 1) 0)
+  meet-refused {k} {j} e q = simp (e, q, add-one)
+
+  pub persist-refused : {k r b : ℕ} → lowestMissed t ≡ some k → (missedBy t k ≡ some r) × (unpartnered (persistentAt t r) (element t k) ≡ some b)
+      → persistRule t ≡ Refused (witnessed 7 (k + 1) (r + 1) b)
+  unfolding missedAt
+  persist-refused {k} {r} {b} e q = simp (e, q .0, q .1, add-one)
 
 -- what an accepted record has passed
 pub record Sound (t : Table) : Type 0 where
@@ -128,5 +174,5 @@ record-numbers t =
     (says-or (says-at (lowestElement t) 4 suc (λ p. by refl))
     (says-or (says-if (badRanks 1 (t .ranks)) 18 (t .count + 1) (by refl))
     (says-or (says-at (lowestPersistent t) 6 (persistentPlace t) (λ p. by refl))
-    (says-or (says-at (first (λ k. isSome (disjointFrom t k)) (t .count)) 5 suc (λ p. by refl))
-    (says-or (says-at (first (λ k. isSome (missedBy t k)) (t .count)) 7 suc (λ p. by refl)) accepts)))))
+    (says-or (says-by (lowestApart t) (apartRefusal t) (λ k e. by refl))
+    (says-or (says-by (lowestMissed t) (missedRefusal t) (λ k e. by refl)) accepts)))))

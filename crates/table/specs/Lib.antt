@@ -5,5 +5,6 @@ pub mod File
 pub mod RoundTrip
 pub mod Sample
 pub mod Ranks
+pub mod Witness
 pub mod Cases
 pub mod Code

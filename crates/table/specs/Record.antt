@@ -1,4 +1,4 @@
--- The verdict on a table record (01: 3, 4, 6, 5, 7; 02, T-01: 18 before 6).
+-- The verdict on a table record (01: 3, 4, 6, 5, 7; 02, T-01: 18 before 6; T-07: the witnesses of 5 and 7).
 --     maxElements         the most elements of a table, and the element places of a record
 --     maxRanks            the most persistent elements of a table, and their places in a record
 --     element t k         element place k, from 0; persistentAt t r: the place of a persistent element (02: keeper), from 0
@@ -13,6 +13,9 @@
 --     badPlace ms n bad k    on any place k of a record, of which n are in use: `bad k` on those, and the others are zero
 --     disjointFrom t k    rule 5: the lowest earlier element that shares no position with element k
 --     missedBy t k        rule 7: the lowest of the persistent elements that is not persistent for element k
+--     orZero o            what a search found, 0 where it found nothing; fromOne o: the same counted from 1
+--     missedAt t k        the lowest position of that persistent element that has no partner in element k
+--     apartRefusal t k    5 at element k, with that earlier element; missedRefusal t k: 7 at element k, with that persistent element's rank and the position
 --     persistentPlace t r    the place of a persistent element: count + 1 and its rank from 1, but count + 1 where it is the only one
 --     countRule t, placesRule t, ranksRule t, persistentRule t, meetRule t, persistRule t     3, 4, 18, 6, 5, 7 with their places
 --     recordRules t       the rules, in their order
@@ -20,7 +23,7 @@
 -- Assumes nothing.
 use mathlib.Core.Bool.{Bool, not, cond, _&&_, _||_}
 use mathlib.Core.List.{List, [], _∷_}
-use mathlib.Core.Option.{Option}
+use mathlib.Core.Option.{Option, none, some}
 use Prim.Native.Nat.{ℕ, suc, _+_, _-_}
 use lib.Dec.{leb, ltb, eqb}
 use lib.ListN.{getD, take, replicate}
@@ -28,9 +31,10 @@ use Rattle.seq.specs.Bits.{bit}
 use Rattle.seq.specs.Lists.{isSome}
 use Rattle.seq.specs.Tab.{first}
 use Rattle.table.specs.declared.Table.{Table}
-use Rattle.table.specs.Mask.{centre, validMask, meets, persistentFor}
+use Rattle.table.specs.Mask.{centre, validMask, meets, unpartnered, persistentFor}
+use Rattle.verdict.specs.declared.Refusal.{Refusal}
 use Rattle.verdict.specs.declared.Verdict.{Verdict}
-use Rattle.verdict.specs.Rules.{refuseIf, refuseAt, judge}
+use Rattle.verdict.specs.Rules.{witnessed, refuseIf, refuseBy, refuseAt, judge}
 
 abbrev pub maxElements : ℕ
 maxElements = 64
@@ -80,6 +84,23 @@ disjointFrom t k = first (λ j. not (meets (element t k) (element t j))) k
 unfoldable pub missedBy : Table → ℕ → Option ℕ
 missedBy t k = first (λ r. not (persistentFor (persistentAt t r) (element t k))) (t .ranks)
 
+abbrev pub orZero : Option ℕ → ℕ
+orZero none = 0
+orZero (some k) = k
+
+abbrev pub fromOne : Option ℕ → ℕ
+fromOne none = 0
+fromOne (some k) = suc k
+
+unfoldable pub missedAt : Table → ℕ → ℕ
+missedAt t k = orZero (unpartnered (persistentAt t (orZero (missedBy t k))) (element t k))
+
+abbrev pub apartRefusal : Table → ℕ → Refusal
+apartRefusal t k = witnessed 5 (suc k) (fromOne (disjointFrom t k)) 0
+
+abbrev pub missedRefusal : Table → ℕ → Refusal
+missedRefusal t k = witnessed 7 (suc k) (fromOne (missedBy t k)) (missedAt t k)
+
 unfoldable pub persistentPlace : Table → ℕ → ℕ
 persistentPlace t r = cond (eqb (t .ranks) 1 && eqb r 0) (t .count + 1) (t .count + 2 + r)
 
@@ -96,10 +117,10 @@ abbrev pub persistentRule : Table → Verdict
 persistentRule t = refuseAt (first (badPlace (t .persistents) (t .ranks) (badPersistent t)) maxRanks) 6 (persistentPlace t)
 
 abbrev pub meetRule : Table → Verdict
-meetRule t = refuseAt (first (λ k. isSome (disjointFrom t k)) (t .count)) 5 suc
+meetRule t = refuseBy (first (λ k. isSome (disjointFrom t k)) (t .count)) (apartRefusal t)
 
 abbrev pub persistRule : Table → Verdict
-persistRule t = refuseAt (first (λ k. isSome (missedBy t k)) (t .count)) 7 suc
+persistRule t = refuseBy (first (λ k. isSome (missedBy t k)) (t .count)) (missedRefusal t)
 
 abbrev pub recordRules : Table → List Verdict
 recordRules t =

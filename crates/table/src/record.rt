@@ -9,12 +9,16 @@ use verdict::Verdict;
 ghost use mathlib.Core.Path.{_≡_};
 ghost use Prim.Native.Nat.{ℕ, _≤_, _<_, _^_};
 ghost use lib.ListN.{length, getD};
-ghost use Rattle.seq.specs.Lists.{isSome};
-ghost use Rattle.seq.specs.Tab.{first};
 ghost use Rattle.table.specs.Mask.{positionCount};
-ghost use Rattle.table.specs.Record.{maxElements, maxRanks, element, badCount, badRanks, badPlace, disjointFrom, missedBy, persistentPlace, meetRule, persistRule};
-ghost use Rattle.table.specs.Code.Search.{found, badOf, lowestBad, behindElements, InRange};
+ghost use Rattle.table.specs.Record.{maxElements, maxRanks, element, badCount, badRanks, badPlace, disjointFrom, persistentPlace, meetRule, persistRule};
+ghost use Rattle.table.specs.Code.Search.{found, Misses, badOf, lowestBad, behindElements, InRange};
 ghost use Rattle.verdict.specs.Rules.{orElse, judge};
+
+// Which persistent element misses an element, and its position without a partner.
+enum Miss {
+    At(usize, usize),
+    Nowhere,
+}
 
 // Rule 3.
 pub(crate) fn is_bad_count(count: usize) -> bool
@@ -87,28 +91,25 @@ pub(crate) fn relations(table: Table) -> Verdict
     requires { ⌜ InRange table ⌝ }
     ensures { λ r. ⌜ r ≡ orElse (meetRule table) (persistRule table) ⌝ }
 {
-    if let Search::Found(k) = first_disjoint(table) {
-        return verdict::refused(verdict::ELEMENTS_DISJOINT, k + 1);
+    match check_meeting(table) {
+        Verdict::Refused(r) => Verdict::Refused(r),
+        Verdict::Accepted => check_persistence(table),
     }
-    if let Search::Found(k) = first_missed(table) {
-        return verdict::refused(verdict::NOT_PERSISTENT, k + 1);
-    }
-    Verdict::Accepted
 }
 
 // Rule 5.
-fn first_disjoint(table: Table) -> Search
+fn check_meeting(table: Table) -> Verdict
     requires { ⌜ InRange table ⌝ }
-    ensures { λ r. ⌜ found r ≡ first (λ k. isSome (disjointFrom table k)) (table .count) ⌝ }
+    ensures { λ r. ⌜ r ≡ meetRule table ⌝ }
 {
     let mut k = 0;
     while k < table.count {
-        if let Search::Found(_) = disjoint_from(table, k) {
-            return Search::Found(k);
+        if let Search::Found(j) = disjoint_from(table, k) {
+            return verdict::refused_for(verdict::ELEMENTS_DISJOINT, k + 1, j + 1, 0);
         }
         k += 1;
     }
-    Search::Nothing
+    Verdict::Accepted
 }
 
 // The lowest earlier element that shares no position with element k.
@@ -128,32 +129,32 @@ fn disjoint_from(table: Table, k: usize) -> Search
 }
 
 // Rule 7.
-fn first_missed(table: Table) -> Search
+fn check_persistence(table: Table) -> Verdict
     requires { ⌜ InRange table ⌝ }
-    ensures { λ r. ⌜ found r ≡ first (λ k. isSome (missedBy table k)) (table .count) ⌝ }
+    ensures { λ r. ⌜ r ≡ persistRule table ⌝ }
 {
     let mut k = 0;
     while k < table.count {
-        if let Search::Found(_) = missed_by(table, k) {
-            return Search::Found(k);
+        if let Miss::At(r, b) = missed_by(table, k) {
+            return verdict::refused_for(verdict::NOT_PERSISTENT, k + 1, r + 1, b);
         }
         k += 1;
     }
-    Search::Nothing
+    Verdict::Accepted
 }
 
-// The lowest of the persistent elements that is not persistent for element k.
-fn missed_by(table: Table, k: usize) -> Search
+// The lowest of the persistent elements that is not persistent for element k, and its lowest position that has no partner there.
+fn missed_by(table: Table, k: usize) -> Miss
     requires { ⌜ (InRange table) × (k < table .count) ⌝ }
-    ensures { λ r. ⌜ found r ≡ missedBy table k ⌝ }
+    ensures { λ r. ⌜ Misses table k r ⌝ }
 {
     let element = table.elements[k];
     let mut r = 0;
     while r < table.ranks {
-        if let Search::Found(_) = mask::lowest_unpartnered(table.persistents[r], element) {
-            return Search::Found(r);
+        if let Search::Found(b) = mask::lowest_unpartnered(table.persistents[r], element) {
+            return Miss::At(r, b);
         }
         r += 1;
     }
-    Search::Nothing
+    Miss::Nowhere
 }

@@ -1,7 +1,7 @@
 -- What a case of 01's "Trial sheets and tables", or one that a request of 02 adds, asks of the definitions.
 --     Case                a case with what is expected
 --     sameTable t u       the two records are equal
---     refusedWith v n p   the verdict refuses by number n at place p
+--     refusedWith v n p a b   the verdict refuses by number n at place p, with the witness a and the position b
 --     inner w h i         pixel i lies in the inside of the image
 --     countsAre j s p a r     the record has stage s, p passes, a added and r removed
 --     ran t f             record and areas after a file is loaded with a table, and run
@@ -35,9 +35,9 @@ use Rattle.verdict.specs.Rules.{isAccepted}
 pub data Case : Type 0 where
   -- the table's file, both ways
   tableFile : Table → List ℕ → Case
-  -- number and place of a file, of a record
-  fileRefused : List ℕ → ℕ → ℕ → Case
-  recordRefused : Table → ℕ → ℕ → Case
+  -- number, place, witness and position of a file, of a record
+  fileRefused : List ℕ → ℕ → ℕ → ℕ → ℕ → Case
+  recordRefused : Table → ℕ → ℕ → ℕ → ℕ → Case
   -- table, image file: loaded and run, it rests as this image with these passes, added, removed
   rests : Table → List ℕ → List ℕ → ℕ → ℕ → ℕ → Case
   -- table, image file: loaded, run and collected, it is this file
@@ -52,9 +52,9 @@ sameTable t u =
     (eqb (t .count) (u .count) && sameList (t .elements) (u .elements))
     && (eqb (t .ranks) (u .ranks) && sameList (t .persistents) (u .persistents))
 
-abbrev pub refusedWith : Verdict → ℕ → ℕ → Bool
-refusedWith Accepted n p = false
-refusedWith (Refused r) n p = eqb (r .number) n && eqb (r .place) p
+abbrev pub refusedWith : Verdict → ℕ → ℕ → ℕ → ℕ → Bool
+refusedWith Accepted n p a b = false
+refusedWith (Refused r) n p a b = (eqb (r .number) n && eqb (r .place) p) && (eqb (r .witness) a && eqb (r .position) b)
 
 abbrev pub inner : ℕ → ℕ → ℕ → Bool
 inner w h i = (leb 1 (i / w) && ltb (i / w) (h - 1)) && (leb 1 (i % w) && ltb (i % w) (w - 1))
@@ -70,8 +70,8 @@ ran t f =
 
 unfoldable pub meets : Case → Bool
 meets (tableFile t f) = (isAccepted (recordVerdict t) && isAccepted (fileVerdict f)) && (sameList (tableBytes t) f && sameTable (tableOf f) t)
-meets (fileRefused f n p) = refusedWith (fileVerdict f) n p
-meets (recordRefused t n p) = refusedWith (recordVerdict t) n p
+meets (fileRefused f n p a b) = refusedWith (fileVerdict f) n p a b
+meets (recordRefused t n p a b) = refusedWith (recordVerdict t) n p a b
 meets (rests t f end passes added removed) = countsAre (ran t f .job) 2 passes added removed && sameList (viewOf (ran t f)) end
 meets (collects t f g) = sameList (collectOutput (replicate (length g) 0xA5) (ran t f)) g
 meets (notOpened t w h img v r c) = not (opened t w h img v r c)

@@ -1,6 +1,6 @@
 -- The laws of what a verdict may refuse by. That a numeral is among numerals, `refl` computes.
 --     says-if, says-by, says-at   a rule refuses by its own refusal
---     says-or, says-judge         verdicts in a row, and a list of rules
+--     says-or, says-append        verdicts in a row, and two lists of rules
 --     says-more                   what follows of a refusal
 --     says-of                     what is said of a verdict that refuses
 --     one-of-more                 more numbers
@@ -8,7 +8,7 @@
 --     one-of-other                a number that is not among them
 -- Assumes nothing.
 use mathlib.Core.Bool.{Bool, true, false}
-use mathlib.Core.List.{List, [], _∷_, List·Memᴰ, List·Memᴰ·head, List·Memᴰ·tail}
+use mathlib.Core.List.{List, _++_}
 use mathlib.Core.Logic.{_≢_}
 use mathlib.Core.Option.{Option, none, some}
 use mathlib.Core.Path.{_≡_, refl, ap, subst, _∙_}
@@ -22,7 +22,7 @@ use Rattle.verdict.specs.declared.Verdict.{Verdict}
 use Rattle.verdict.specs.declared.Verdict.the-variants.{Refused}
 use Rattle.verdict.specs.Numbers.{Says, accepts, refuses, among, By, by, OneOf}
 use Rattle.verdict.specs.Rules.{refusal, refuseIf, refuseBy, refuseAt, orElse, judge}
-use Rattle.verdict.proofs.Rules.{refused-accepted}
+use Rattle.verdict.proofs.Rules.{refused-accepted, judge-append}
 
 module _ {P : Refusal → Type 0} where
   pub says-if : (b : Bool) (n p : ℕ) → P (refusal n p) → Says P (refuseIf b n p)
@@ -40,9 +40,8 @@ module _ {P : Refusal → Type 0} where
   says-or accepts y = y
   says-or (refuses h) y = refuses h
 
-  pub says-judge : (vs : List Verdict) → ((v : Verdict) → List·Memᴰ v vs → Says P v) → Says P (judge vs)
-  says-judge [] h = accepts
-  says-judge (v ∷ vs) h = says-or (h v (List·Memᴰ·head refl)) (says-judge vs (λ w m. h w (List·Memᴰ·tail m)))
+  pub says-append : (vs ws : List Verdict) → Says P (judge vs) → Says P (judge ws) → Says P (judge (vs ++ ws))
+  says-append vs ws x y = rw (judge-append vs ws) (says-or x y)
 
   pub says-more : {Q : Refusal → Type 0} {v : Verdict} → ((r : Refusal) → P r → Q r) → Says P v → Says Q v
   says-more f accepts = accepts

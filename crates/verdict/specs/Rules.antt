@@ -1,5 +1,6 @@
 -- Check lists: rules in 01's order, of which the first that fails speaks.
---     refusal n p            the refusal with number n at place p
+--     witnessed n p a b      the refusal with number n at place p, and with it the witness a and the position b (02, T-07)
+--     refusal n p            the same without: both are 0
 --     refuseIf bad n p       refuse with n at p where the test bad holds
 --     refuseBy found say     refuse with what is said of what a search found
 --     refuseAt found n at    refuse with n at the place of what a search found
@@ -15,8 +16,11 @@ use Rattle.verdict.specs.declared.Refusal.{Refusal}
 use Rattle.verdict.specs.declared.Verdict.{Verdict}
 use Rattle.verdict.specs.declared.Verdict.the-variants.{Accepted, Refused}
 
+abbrev pub witnessed : ℕ → ℕ → ℕ → ℕ → Refusal
+witnessed n p a b = record { number = n; place = p; witness = a; position = b }
+
 abbrev pub refusal : ℕ → ℕ → Refusal
-refusal n p = record { number = n; place = p }
+refusal n p = witnessed n p 0 0
 
 abbrev pub refuseIf : Bool → ℕ → ℕ → Verdict
 refuseIf true n p = Refused (refusal n p)

@@ -2,10 +2,13 @@
 ghost use mathlib.Core.Path.{_≡_};
 ghost use Rattle.verdict.specs.Rules;
 
-// A refusal: number and place.
+// A refusal: number and place. Of 5 and 7 also where exactly the table is bad: the witness of 5 is an earlier element, that of 7 the rank of a
+// persistent element, and the position is one of its positions. In every other refusal both are zero.
 pub struct Refusal {
     pub number: u32,
     pub place: usize,
+    pub witness: usize,
+    pub position: usize,
 }
 
 pub enum Verdict {
@@ -22,13 +25,30 @@ pub enum Written {
 pub fn refusal_of(number: u32, place: usize) -> Refusal
     ensures { λ r. ⌜ r ≡ Rules.refusal number place ⌝ }
 {
-    Refusal { number, place }
+    witnessed(number, place, 0, 0)
+}
+
+fn witnessed(number: u32, place: usize, witness: usize, position: usize) -> Refusal
+    ensures { λ r. ⌜ r ≡ Rules.witnessed number place witness position ⌝ }
+{
+    Refusal {
+        number,
+        place,
+        witness,
+        position,
+    }
 }
 
 pub fn refused(number: u32, place: usize) -> Verdict
     ensures { λ r. ⌜ r ≡ Verdict.Refused (Rules.refusal number place) ⌝ }
 {
     Verdict::Refused(refusal_of(number, place))
+}
+
+pub fn refused_for(number: u32, place: usize, witness: usize, position: usize) -> Verdict
+    ensures { λ r. ⌜ r ≡ Verdict.Refused (Rules.witnessed number place witness position) ⌝ }
+{
+    Verdict::Refused(witnessed(number, place, witness, position))
 }
 
 pub const NUMBER_ENDS: u32 = 1;

@@ -49,13 +49,14 @@ pub fn offsets(mask: u32) -> Vec<Offset> {
     Offset::all().filter(|o| o.is_in(mask)).collect()
 }
 
-/// For each offset b of the persistent element there is an offset a of the element with b + a in the persistent element.
-pub fn is_persistent(persistent: u32, element: u32) -> bool {
+/// The lowest offset b of the persistent element without a partner: there is no offset a of the element with b + a in the
+/// persistent element. It is persistent where there is none.
+pub fn without_partner(persistent: u32, element: u32) -> Option<Offset> {
     let stays = |b: &Offset, a: &Offset| b.plus(*a).is_some_and(|sum| sum.is_in(persistent));
     let element = offsets(element);
     offsets(persistent)
-        .iter()
-        .all(|b| element.iter().any(|a| stays(b, a)))
+        .into_iter()
+        .find(|b| !element.iter().any(|a| stays(b, a)))
 }
 
 /// The two lists of masks in a table, both rising.
@@ -139,22 +140,27 @@ fn check_ranks(ranks: usize, least: usize, place: usize) -> Result<(), Refusal> 
     }
 }
 
+/// Rule 5: the lowest element, then the lowest one before it.
 fn check_shared(table: &TableRecord) -> Result<(), Refusal> {
     let elements = &table.elements[..table.count];
     for (i, element) in elements.iter().enumerate() {
-        if elements[..i].iter().any(|earlier| earlier & element == 0) {
-            return Err(Refusal::at(Reason::Disjoint, i + 1));
+        for (j, earlier) in elements[..i].iter().enumerate() {
+            if earlier & element == 0 {
+                return Err(Refusal::witnessed(Reason::Disjoint, i + 1, j + 1, 0));
+            }
         }
     }
     Ok(())
 }
 
-/// Each persistent element must be persistent alone.
+/// Rule 7: each persistent element must be persistent alone. The lowest element, then the lowest rank, then its lowest position.
 fn check_persistence(table: &TableRecord) -> Result<(), Refusal> {
-    let persistents = &table.persistents[..table.ranks];
     for (i, element) in table.elements[..table.count].iter().enumerate() {
-        if !persistents.iter().all(|k| is_persistent(*k, *element)) {
-            return Err(Refusal::at(Reason::NotPersistent, i + 1));
+        for (rank, persistent) in (1..).zip(&table.persistents[..table.ranks]) {
+            if let Some(b) = without_partner(*persistent, *element) {
+                let (reason, position) = (Reason::NotPersistent, b.position() as usize);
+                return Err(Refusal::witnessed(reason, i + 1, rank, position));
+            }
         }
     }
     Ok(())

@@ -233,7 +233,7 @@ impl Tally {
         self.cases += 1;
         match &answer {
             Ok(_) => self.accepted += 1,
-            Err(Refusal { reason, place }) => {
+            Err(Refusal { reason, place, .. }) => {
                 let places = self.refused.entry(*reason).or_default();
                 *places.entry(*place).or_default() += 1;
             }

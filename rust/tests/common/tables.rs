@@ -1,6 +1,8 @@
 //! Tables by library and reference: the answers must agree.
 
+use super::State;
 use mask_cleaner::library;
+use mask_cleaner::model::{Book, Call};
 use mask_cleaner::record::{Refusal, TableRecord};
 use mask_cleaner::reference::table as reference;
 
@@ -28,4 +30,25 @@ pub fn write(table: &TableRecord, out: &mut [u8]) -> Result<usize, Refusal> {
     let written = answer.unwrap_or(0);
     assert_eq!(out[written..], before[written..], "{table:?}");
     answer
+}
+
+/// Both loads and the book's, of one pixel for which there is room.
+pub fn load(table: &TableRecord) -> Result<(), Refusal> {
+    let call = Call::Load {
+        table: *table,
+        file: b"P4\n1 1\n\x80".to_vec(),
+    };
+    let before = State::empty(vec![7], vec![8]);
+    let mut state = before.clone();
+    let answer = state.apply_both(&call, &mut []);
+    let expected = Book::default().enter(&call, state.areas());
+    assert_eq!(answer, expected, "{table:?}");
+    assert_eq!(answer.is_err(), state == before, "{table:?}");
+    answer.map(drop)
+}
+
+/// Bytes that are written as `01 C0`.
+pub fn bytes(text: &str) -> Vec<u8> {
+    let bytes = text.split_whitespace().map(|b| u8::from_str_radix(b, 16));
+    bytes.collect::<Result<_, _>>().expect("bytes")
 }

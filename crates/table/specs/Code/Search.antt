@@ -1,5 +1,6 @@
 -- What the private functions of the record check answer.
 --     found s            a search's answer
+--     Misses t k m       m answers which persistent element is the lowest that misses element k, and which is its lowest position without a partner
 --     leavesCentre kind  masks of this kind leave the centre out
 --     rangeNumber kind   the number of the rule on them
 --     badAfter kind b m  that rule on the mask m after the mask b, 0 where there is none
@@ -11,6 +12,7 @@
 use mathlib.Core.Bool.{Bool, true, false, not, _&&_, _||_}
 use mathlib.Core.List.{List, [], _∷_}
 use mathlib.Core.Option.{Option, none, some}
+use mathlib.Core.Path.{_≡_}
 use Prim.Native.Nat.{ℕ, _^_, _≤_, _<_}
 use lib.Dec.{leb}
 use lib.ListN.{length, getD}
@@ -21,13 +23,19 @@ use Rattle.table.specs.declared.mask.Kind.{Kind}
 use Rattle.table.specs.declared.mask.Kind.the-variants.{Element, Persistent}
 use Rattle.table.specs.declared.mask.Search.{Search}
 use Rattle.table.specs.declared.mask.Search.the-variants.{Found, Nothing}
-use Rattle.table.specs.Mask.{positionCount, centre, validMask}
-use Rattle.table.specs.Record.{maxElements, maxRanks, element, persistentAt, badMask, badPlace, ranksRule, persistentRule, meetRule, persistRule}
+use Rattle.table.specs.declared.record.Miss.{Miss}
+use Rattle.table.specs.declared.record.Miss.the-variants.{At, Nowhere}
+use Rattle.table.specs.Mask.{positionCount, centre, validMask, unpartnered}
+use Rattle.table.specs.Record.{maxElements, maxRanks, element, persistentAt, badMask, badPlace, missedBy, ranksRule, persistentRule, meetRule, persistRule}
 use Rattle.verdict.specs.declared.Verdict.{Verdict}
 
 abbrev pub found : Search → Option ℕ
 found (Found k) = some k
 found Nothing = none
+
+pub data Misses (t : Table) (k : ℕ) : Miss → Type 0 where
+  nowhere : missedBy t k ≡ none → Misses t k Nowhere
+  at : {r b : ℕ} → missedBy t k ≡ some r → unpartnered (persistentAt t r) (element t k) ≡ some b → Misses t k (At r b)
 
 abbrev pub leavesCentre : Kind → Bool
 leavesCentre Element = true

@@ -1,14 +1,16 @@
 -- `record::missed_by` meets its contract: a search over the persistent elements.
 -- Assumes nothing.
 use mathlib.Core.Bool.{not}
-use mathlib.Core.Path.{_∙_}
+use mathlib.Core.Path.{sym, ap, _∙_}
 use Prim.Native.Nat.{_-_}
 use native.Mathlib.Omega.{arith}
 use borrow.Author.Needs.{needs}
 use Rattle.seq.proofs.Search.{Passed, passed-none, passed-more, passed-found, passed-all}
+use Rattle.seq.specs.Lists.{isSome}
+use Rattle.table.specs.Code.Search.{found, nowhere, at}
 use Rattle.table.specs.Mask.{persistentFor}
 use Rattle.table.specs.Record.{persistentAt, missedBy}
-use Rattle.table.proofs.Places.{found-some, found-none, missed-is}
+use Rattle.table.proofs.Places.{found-none, missed-is}
 use Rattle.table.proofs.record.missed_by.Statement.{statement}
 use Rattle.table.proofs.record.missed_by.Tie as tie
 
@@ -38,18 +40,19 @@ lowest-unpartnered-requires c κs =
     let (w, l) = c .before .before .before .before .pre in
     (w .persistent-lt _ (omega arith), w .element-lt _ l)
 
-enum-told : tie.Need-enum-told Inv-loop μ-loop
-enum-told c = search needs
+enum-known-b : tie.Need-enum-known-b Inv-loop μ-loop
+enum-known-b c = search needs
 
 returns : tie.Need-returns Inv-loop μ-loop
 unfolding missedBy
 returns c =
-    let turn = c .before .before .before .before in
-    passed-found (turn .before .loop .inv) (turn .loop-test .taken)
-    (missed-is _ _ ∙ found-some (c .before .before .lowest-unpartnered .ensures) (c .enum-told .given .1))
+    let called = c .before .before .before in
+    let turn = called .before .before in
+    let alone = sym (called .lowest-unpartnered .ensures) ∙ ap found (c .before .b .given .1) in
+    at (sym (passed-found (turn .before .loop .inv) (turn .loop-test .taken) (missed-is _ _ ∙ ap isSome alone))) alone
 
-enum-told-2 : tie.Need-enum-told-2 Inv-loop μ-loop
-enum-told-2 c = search needs
+enum-told : tie.Need-enum-told Inv-loop μ-loop
+enum-told c = search needs
 
 add-r : tie.Need-add-r Inv-loop μ-loop
 add-r c = omega arith
@@ -61,11 +64,11 @@ loop-again : tie.Need-loop-again Inv-loop μ-loop
 loop-again c =
     let turn = c .before .before .before .before in
     passed-more (turn .before .loop .inv) (turn .loop-test .taken)
-    (missed-is _ _ ∙ found-none (c .before .before .lowest-unpartnered .ensures) (c .enum-told2 .given .1))
+    (missed-is _ _ ∙ found-none (c .before .before .lowest-unpartnered .ensures) (c .enum-told .given .1))
 
 returns-2 : tie.Need-returns-2 Inv-loop μ-loop
 unfolding missedBy
-returns-2 c = passed-all (c .before .loop .inv) (c .loop-test .left)
+returns-2 c = nowhere (sym (passed-all (c .before .loop .inv) (c .loop-test .left)))
 
 pub missed-by-spec : {M : Type 1} → statement M
 missed-by-spec =
@@ -79,9 +82,9 @@ missed-by-spec =
     mul-lowest-unpartnered
     element-copy-out-lowest-unpartnered
     lowest-unpartnered-requires
-    enum-told
+    enum-known-b
     returns
-    enum-told-2
+    enum-told
     add-r
     loop-less
     loop-again
