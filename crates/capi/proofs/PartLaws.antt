@@ -8,14 +8,13 @@ use Prim.Native.Nat.{ℕ, _≤_}
 use native.Mathlib.Omega.{arith}
 use lib.ListN.{length}
 use Rattle.capi.specs.declared.Part.{Part}
-use Rattle.capi.specs.Answers.{part}
+use Rattle.capi.specs.Answers.{ofVerdict}
 use Rattle.capi.specs.Part.{partAs, partOf, areaOf, Shows}
 use Rattle.history.specs.State.{State, pixels, even, present, image, readyVerdict}
 use Rattle.history.specs.View.{viewOf}
 use Rattle.history.specs.Call.{view, stateOf}
 use Rattle.history.specs.Sound.{Ready}
 use Rattle.history.proofs.Ready.{accepted-ready}
-use Rattle.verdict.specs.Answers.{said}
 use Rattle.verdict.specs.declared.Refusal.{Refusal}
 use Rattle.verdict.specs.declared.Verdict.{Verdict}
 use Rattle.verdict.specs.declared.Verdict.the-variants.{Accepted, Refused}
@@ -44,7 +43,7 @@ shows-as s (Refused r) e = record { bytes = rw e; inside = omega arith }
 
 -- an accepted answer that names area n
 abbrev accepted : ℕ → State → Part
-accepted n s = part (said Accepted) n (pixels (s .job))
+accepted n s = record { checked = ofVerdict Accepted; area = n; length = pixels (s .job) }
 
 -- what is promised of an answer; record and areas are as they were
 abbrev Promised : State → Part → Type 0

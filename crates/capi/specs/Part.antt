@@ -13,16 +13,15 @@ use lib.Dec.{eqb}
 use lib.ListN as list
 use lib.ListN.{take}
 use Rattle.capi.specs.declared.Part.{Part}
-use Rattle.capi.specs.Answers.{part}
+use Rattle.capi.specs.Answers.{ofVerdict}
 use Rattle.history.specs.State.{State, pixels, even, readyVerdict}
 use Rattle.history.specs.View.{viewOf}
-use Rattle.verdict.specs.Answers.{said}
 use Rattle.verdict.specs.declared.Verdict.{Verdict}
 use Rattle.verdict.specs.declared.Verdict.the-variants.{Accepted, Refused}
 
 abbrev pub partAs : Verdict → State → Part
-partAs Accepted s = part (said Accepted) (cond (even (s .job .passes)) 1 2) (pixels (s .job))
-partAs (Refused r) s = part r 0 0
+partAs Accepted s = record { checked = ofVerdict Accepted; area = cond (even (s .job .passes)) 1 2; length = pixels (s .job) }
+partAs (Refused r) s = record { checked = ofVerdict (Refused r); area = 0; length = 0 }
 
 unfoldable pub partOf : State → Part
 partOf s = partAs (readyVerdict s) s

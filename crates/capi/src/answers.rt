@@ -1,23 +1,18 @@
-// The libraries' answers as C structs. Number 0 is "accepted"; in a refused answer all but the refusal is zero.
+// The libraries' answers as C structs. Each starts with what is said of a refusal: number 0 is "accepted"; else all that follows is zero.
 use crate::Checked;
 use crate::FiguresAnswer;
 use crate::FileLength;
 use crate::ImageSize;
-use crate::Part;
 use crate::Progress;
 use crate::TableAnswer;
 use history::Figured;
 use history::Passed;
 use image::ImageRead;
-use table::Table;
 use table::TableRead;
-use verdict::Refusal;
 use verdict::Verdict;
 use verdict::Written;
 ghost use mathlib.Core.Path.{_≡_};
-ghost use Rattle.capi.specs.Answers as the;
 ghost use Rattle.capi.specs.Answers.{ofVerdict, ofTableRead, ofWritten, ofImageRead, ofPassed, ofFigured};
-ghost use Rattle.verdict.specs.Answers as verdicts;
 
 // The number of an answer that refuses nothing.
 const ACCEPTED: u32 = 0;
@@ -29,7 +24,20 @@ const STABLE: u32 = 1;
 pub(crate) fn of_verdict(verdict: Verdict) -> Checked
     ensures { λ r. ⌜ r ≡ ofVerdict verdict ⌝ }
 {
-    checked(said(verdict))
+    match verdict {
+        Verdict::Accepted => Checked {
+            number: ACCEPTED,
+            place: 0,
+            witness: 0,
+            position: 0,
+        },
+        Verdict::Refused(refusal) => Checked {
+            number: refusal.number,
+            place: refusal.place,
+            witness: refusal.witness,
+            position: refusal.position,
+        },
+    }
 }
 
 pub(crate) fn of_table_read(read: TableRead) -> TableAnswer
@@ -37,15 +45,24 @@ pub(crate) fn of_table_read(read: TableRead) -> TableAnswer
 {
     let verdict = read.verdict;
     let table = read.table;
-    table_answer(said(verdict), table)
+    TableAnswer {
+        checked: of_verdict(verdict),
+        table,
+    }
 }
 
 pub(crate) fn of_written(written: Written) -> FileLength
     ensures { λ r. ⌜ r ≡ ofWritten written ⌝ }
 {
     match written {
-        Written::Length(bytes) => file_length(said(Verdict::Accepted), bytes),
-        Written::Refused(refusal) => file_length(refusal, 0),
+        Written::Length(bytes) => FileLength {
+            checked: of_verdict(Verdict::Accepted),
+            length: bytes,
+        },
+        Written::Refused(refusal) => FileLength {
+            checked: of_verdict(Verdict::Refused(refusal)),
+            length: 0,
+        },
     }
 }
 
@@ -53,8 +70,16 @@ pub(crate) fn of_image_read(read: ImageRead) -> ImageSize
     ensures { λ r. ⌜ r ≡ ofImageRead read ⌝ }
 {
     match read {
-        ImageRead::Size { width, height } => image_size(said(Verdict::Accepted), width, height),
-        ImageRead::Refused(refusal) => image_size(refusal, 0, 0),
+        ImageRead::Size { width, height } => ImageSize {
+            checked: of_verdict(Verdict::Accepted),
+            width,
+            height,
+        },
+        ImageRead::Refused(refusal) => ImageSize {
+            checked: of_verdict(Verdict::Refused(refusal)),
+            width: 0,
+            height: 0,
+        },
     }
 }
 
@@ -62,9 +87,18 @@ pub(crate) fn of_passed(passed: Passed) -> Progress
     ensures { λ r. ⌜ r ≡ ofPassed passed ⌝ }
 {
     match passed {
-        Passed::Changed => progress(said(Verdict::Accepted), CHANGED),
-        Passed::Stable => progress(said(Verdict::Accepted), STABLE),
-        Passed::Refused(refusal) => progress(refusal, CHANGED),
+        Passed::Changed => Progress {
+            checked: of_verdict(Verdict::Accepted),
+            stable: CHANGED,
+        },
+        Passed::Stable => Progress {
+            checked: of_verdict(Verdict::Accepted),
+            stable: STABLE,
+        },
+        Passed::Refused(refusal) => Progress {
+            checked: of_verdict(Verdict::Refused(refusal)),
+            stable: CHANGED,
+        },
     }
 }
 
@@ -72,105 +106,15 @@ pub(crate) fn of_figured(figured: Figured) -> FiguresAnswer
     ensures { λ r. ⌜ r ≡ ofFigured figured ⌝ }
 {
     match figured {
-        Figured::Figures { balance, cover } => {
-            figures_answer(said(Verdict::Accepted), balance, cover)
-        }
-        Figured::Refused(refusal) => figures_answer(refusal, 0, 0),
-    }
-}
-
-// What every answer starts with: the refusal, or zeros.
-pub(crate) fn said(verdict: Verdict) -> Refusal
-    ensures { λ r. ⌜ r ≡ verdicts.said verdict ⌝ }
-{
-    match verdict {
-        Verdict::Accepted => verdict::refusal_of(ACCEPTED, 0),
-        Verdict::Refused(refusal) => refusal,
-    }
-}
-
-fn checked(said: Refusal) -> Checked
-    ensures { λ r. ⌜ r ≡ the.checked said ⌝ }
-{
-    Checked {
-        number: said.number,
-        place: said.place,
-        witness: said.witness,
-        position: said.position,
-    }
-}
-
-fn table_answer(said: Refusal, table: Table) -> TableAnswer
-    ensures { λ r. ⌜ r ≡ the.tableAnswer said table ⌝ }
-{
-    TableAnswer {
-        number: said.number,
-        place: said.place,
-        witness: said.witness,
-        position: said.position,
-        table,
-    }
-}
-
-fn file_length(said: Refusal, length: usize) -> FileLength
-    ensures { λ r. ⌜ r ≡ the.fileLength said length ⌝ }
-{
-    FileLength {
-        number: said.number,
-        place: said.place,
-        witness: said.witness,
-        position: said.position,
-        length,
-    }
-}
-
-fn image_size(said: Refusal, width: usize, height: usize) -> ImageSize
-    ensures { λ r. ⌜ r ≡ the.imageSize said width height ⌝ }
-{
-    ImageSize {
-        number: said.number,
-        place: said.place,
-        witness: said.witness,
-        position: said.position,
-        width,
-        height,
-    }
-}
-
-fn progress(said: Refusal, stable: u32) -> Progress
-    ensures { λ r. ⌜ r ≡ the.progress said stable ⌝ }
-{
-    Progress {
-        number: said.number,
-        place: said.place,
-        witness: said.witness,
-        position: said.position,
-        stable,
-    }
-}
-
-pub(crate) fn part(said: Refusal, area: u32, length: usize) -> Part
-    ensures { λ r. ⌜ r ≡ the.part said area length ⌝ }
-{
-    Part {
-        number: said.number,
-        place: said.place,
-        witness: said.witness,
-        position: said.position,
-        area,
-        length,
-    }
-}
-
-fn figures_answer(said: Refusal, balance: i64, cover: usize) -> FiguresAnswer
-    ensures { λ r. ⌜ r ≡ the.figuresAnswer said balance cover ⌝ }
-{
-    FiguresAnswer {
-        number: said.number,
-        place: said.place,
-        witness: said.witness,
-        position: said.position,
-        balance,
-        cover,
+        Figured::Figures { balance, cover } => FiguresAnswer {
+            checked: of_verdict(Verdict::Accepted),
+            balance,
+            cover,
+        },
+        Figured::Refused(refusal) => FiguresAnswer {
+            checked: of_verdict(Verdict::Refused(refusal)),
+            balance: 0,
+            cover: 0,
+        },
     }
 }

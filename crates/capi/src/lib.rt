@@ -24,7 +24,7 @@ ghost use Rattle.job.specs.Core.{at};
 ghost use Rattle.table.specs.File.{readTable, writtenTable, tableOutput};
 ghost use Rattle.table.specs.Record.{recordVerdict};
 
-// What C gets as an answer. Number 0 is "accepted"; else the refusal, and all else zero.
+// What every answer for C starts with. Number 0 is "accepted"; else it is the refusal, and all that follows is zero.
 #[repr(C)]
 pub struct Checked {
     pub number: u32,
@@ -35,59 +35,41 @@ pub struct Checked {
 
 #[repr(C)]
 pub struct TableAnswer {
-    pub number: u32,
-    pub place: usize,
-    pub witness: usize,
-    pub position: usize,
+    pub checked: Checked,
     pub table: Table,
 }
 
 #[repr(C)]
 pub struct ImageSize {
-    pub number: u32,
-    pub place: usize,
-    pub witness: usize,
-    pub position: usize,
+    pub checked: Checked,
     pub width: usize,
     pub height: usize,
 }
 
 #[repr(C)]
 pub struct FileLength {
-    pub number: u32,
-    pub place: usize,
-    pub witness: usize,
-    pub position: usize,
+    pub checked: Checked,
     pub length: usize,
 }
 
 // Stable is 1 for 01's "at rest", 0 for "changed".
 #[repr(C)]
 pub struct Progress {
-    pub number: u32,
-    pub place: usize,
-    pub witness: usize,
-    pub position: usize,
+    pub checked: Checked,
     pub stable: u32,
 }
 
 // The first bytes of an area: 1 the first, 2 the second, 0 where it is refused.
 #[repr(C)]
 pub struct Part {
-    pub number: u32,
-    pub place: usize,
-    pub witness: usize,
-    pub position: usize,
+    pub checked: Checked,
     pub area: u32,
     pub length: usize,
 }
 
 #[repr(C)]
 pub struct FiguresAnswer {
-    pub number: u32,
-    pub place: usize,
-    pub witness: usize,
-    pub position: usize,
+    pub checked: Checked,
     pub balance: i64,
     pub cover: usize,
 }
@@ -203,12 +185,16 @@ pub extern "C" fn mask_view<'a>(job: Job, first: &'a [u8], second: &'a [u8]) -> 
 {
     let checked = job::view_verdict(job, first, second);
     match checked {
-        Verdict::Refused(refusal) => answers::part(refusal, 0, 0),
-        Verdict::Accepted => answers::part(
-            answers::said(Verdict::Accepted),
-            holder(job.passes),
-            job.width * job.height,
-        ),
+        Verdict::Refused(refusal) => Part {
+            checked: answers::of_verdict(Verdict::Refused(refusal)),
+            area: 0,
+            length: 0,
+        },
+        Verdict::Accepted => Part {
+            checked: answers::of_verdict(Verdict::Accepted),
+            area: holder(job.passes),
+            length: job.width * job.height,
+        },
     }
 }
 

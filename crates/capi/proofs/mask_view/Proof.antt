@@ -14,36 +14,33 @@ view-verdict-requires c κs = search needs
 enum-known-checked : tie.Need-enum-known-checked
 enum-known-checked c = search needs
 
-part-requires : tie.Need-part-requires
-part-requires c κs = search needs
+of-verdict-requires : tie.Need-of-verdict-requires
+of-verdict-requires c κs = search needs
 
 enum-told : tie.Need-enum-told
 enum-told c = search needs
 
-said-requires : tie.Need-said-requires
-said-requires c κs = search needs
+of-verdict-requires-2 : tie.Need-of-verdict-requires-2
+of-verdict-requires-2 c κs = search needs
 
 holder-requires : tie.Need-holder-requires
 holder-requires c κs = search needs
 
-mul-part : tie.Need-mul-part
-mul-part c =
+mul-t12 : tie.Need-mul-t12
+mul-t12 c =
     let told = c .before .before .before in
     record { fits = omega (arith, ready-small (accepted-ready _ (sym (told .before .before .view-verdict .ensures) ∙ told .enum-told .given .1))) }
-
-part-requires-2 : tie.Need-part-requires-2
-part-requires-2 c κs = search needs
 
 returns : tie.Need-returns
 returns c =
     let known = c .before .before in
-    rw (c .part .ensures) (part-refused _ (sym (known .before .before .view-verdict .ensures) ∙ known .checked .given .1))
+    rw (c .of-verdict .ensures) (part-refused _ (sym (known .before .before .view-verdict .ensures) ∙ known .checked .given .1))
 
 returns-2 : tie.Need-returns-2
 returns-2 c =
-    let held = c .before .before in
+    let held = c .before in
     let told = held .before .before in
-    rw (c .part2 .ensures, held .before .said .ensures) (part-accepted _ (sym (told .before .before .view-verdict .ensures) ∙ told .enum-told .given .1) (held .holder .ensures))
+    rw (held .before .of-verdict2 .ensures) (part-accepted _ (sym (told .before .before .view-verdict .ensures) ∙ told .enum-told .given .1) (held .holder .ensures))
 
 pub mask-view-spec : {M : Type 1} → statement M
 mask-view-spec =
@@ -51,11 +48,10 @@ mask-view-spec =
     (tie.spec
     view-verdict-requires
     enum-known-checked
-    part-requires
+    of-verdict-requires
     enum-told
-    said-requires
+    of-verdict-requires-2
     holder-requires
-    mul-part
-    part-requires-2
+    mul-t12
     returns
     returns-2)

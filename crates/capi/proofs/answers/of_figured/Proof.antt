@@ -20,36 +20,32 @@ fits x vs p e = let q = subst (λ (y : Figured). Is row.the-row y vs) e p in rec
 enum-known-figured : tie.Need-enum-known-figured
 enum-known-figured c = search needs
 
-said-requires : tie.Need-said-requires
-said-requires c κs = search needs
-
-figures-answer-requires : tie.Need-figures-answer-requires
-figures-answer-requires c κs = search needs
+of-verdict-requires : tie.Need-of-verdict-requires
+of-verdict-requires c κs = search needs
 
 enum-known-figured-2 : tie.Need-enum-known-figured-2
 enum-known-figured-2 c = search needs
 
-figures-answer-requires-2 : tie.Need-figures-answer-requires-2
-figures-answer-requires-2 c κs = search needs
+of-verdict-requires-2 : tie.Need-of-verdict-requires-2
+of-verdict-requires-2 c κs = search needs
 
 returns : tie.Need-returns
 returns c =
-    let known = c .before .before .before in
+    let known = c .before .before in
     let e = known .figured .given .1 in
     let f = fits _ _ (known .before .before .good .0) e in
-    rw (c .figures-answer .ensures, c .before .said .ensures, toZ-ofZ w64 _ f, e)
+    rw (c .of-verdict .ensures, toZ-ofZ w64 _ f, e)
 
 returns-2 : tie.Need-returns-2
-returns-2 c = rw (c .figures-answer2 .ensures, c .before .before .figured2 .given .1)
+returns-2 c = rw (c .of-verdict2 .ensures, c .before .before .figured2 .given .1)
 
 pub of-figured-spec : {M : Type 1} → statement M
 of-figured-spec =
     tie.close
     (tie.spec
     enum-known-figured
-    said-requires
-    figures-answer-requires
+    of-verdict-requires
     enum-known-figured-2
-    figures-answer-requires-2
+    of-verdict-requires-2
     returns
     returns-2)

@@ -6,32 +6,28 @@ use Rattle.capi.proofs.answers.of_image_read.Tie as tie
 enum-known-read : tie.Need-enum-known-read
 enum-known-read c = search needs
 
-said-requires : tie.Need-said-requires
-said-requires c κs = search needs
-
-image-size-requires : tie.Need-image-size-requires
-image-size-requires c κs = search needs
+of-verdict-requires : tie.Need-of-verdict-requires
+of-verdict-requires c κs = search needs
 
 enum-known-read-2 : tie.Need-enum-known-read-2
 enum-known-read-2 c = search needs
 
-image-size-requires-2 : tie.Need-image-size-requires-2
-image-size-requires-2 c κs = search needs
+of-verdict-requires-2 : tie.Need-of-verdict-requires-2
+of-verdict-requires-2 c κs = search needs
 
 returns : tie.Need-returns
-returns c = rw (c .image-size .ensures, c .before .said .ensures, c .before .before .before .read .given .1)
+returns c = rw (c .of-verdict .ensures, c .before .before .read .given .1)
 
 returns-2 : tie.Need-returns-2
-returns-2 c = rw (c .image-size2 .ensures, c .before .before .read2 .given .1)
+returns-2 c = rw (c .of-verdict2 .ensures, c .before .before .read2 .given .1)
 
 pub of-image-read-spec : {M : Type 1} → statement M
 of-image-read-spec =
     tie.close
     (tie.spec
     enum-known-read
-    said-requires
-    image-size-requires
+    of-verdict-requires
     enum-known-read-2
-    image-size-requires-2
+    of-verdict-requires-2
     returns
     returns-2)

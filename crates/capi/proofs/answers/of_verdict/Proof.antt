@@ -1,16 +1,19 @@
--- `capi::answers::of_verdict`: what it says, turned for C. Assumes nothing.
+-- `capi::answers::of_verdict`: by the case. Assumes nothing.
 use borrow.Author.Needs.{needs}
 use Rattle.capi.proofs.answers.of_verdict.Statement.{statement}
 use Rattle.capi.proofs.answers.of_verdict.Tie as tie
 
-said-requires : tie.Need-said-requires
-said-requires c κs = search needs
+enum-told : tie.Need-enum-told
+enum-told c = search needs
 
-checked-requires : tie.Need-checked-requires
-checked-requires c κs = search needs
+enum-known-verdict : tie.Need-enum-known-verdict
+enum-known-verdict c = search needs
 
 returns : tie.Need-returns
-returns c = rw (c .checked .ensures, c .before .said .ensures)
+returns c = rw (c .enum-told .given .1)
+
+returns-2 : tie.Need-returns-2
+returns-2 c = rw (c .before .verdict .given .1)
 
 pub of-verdict-spec : {M : Type 1} → statement M
-of-verdict-spec = tie.close (tie.spec said-requires checked-requires returns)
+of-verdict-spec = tie.close (tie.spec enum-told enum-known-verdict returns returns-2)
