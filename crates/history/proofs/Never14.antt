@@ -3,17 +3,18 @@
 --     callNumbers, call-numbers      what the history refuses by
 --     never-14                       the claim
 -- Assumes nothing.
-use mathlib.Core.Bool.{not, _||_}
+use mathlib.Core.Bool.{not}
 use mathlib.Core.List.{List, [], _∷_}
 use mathlib.Core.Logic.{_≢_}
 use mathlib.Core.Path.{_≡_, refl}
-use Prim.Native.Nat.{ℕ, _*_}
+use Prim.Native.Nat.{ℕ}
 use lib.Dec.{ltb}
 use lib.ListN.{length}
 use Rattle.history.specs.Call.{Call, load, pass, run, view, figures, collect}
 use Rattle.history.specs.History.{History, empty, holds, Lengths, refusedBy}
 use Rattle.history.specs.Load.{areasRule}
-use Rattle.history.specs.Source.{Source, sourceVerdict, sourceWidth, sourceHeight}
+use Rattle.history.specs.Source.{Source, sourceVerdict}
+use Rattle.history.proofs.Refusals.{input-says}
 use Rattle.history.proofs.Sources.{source-numbers}
 use Rattle.image.specs.File.{imageBytes}
 use Rattle.table.proofs.Verdicts.{record-numbers}
@@ -34,9 +35,7 @@ abbrev callNumbers : List ℕ
 callNumbers = 15 ∷ 16 ∷ 17 ∷ inputNumbers
 
 pub load-numbers : (t : Table) (x : Source) (n m : ℕ) → OneOf inputNumbers (judge (recordVerdict t ∷ sourceVerdict x ∷ areasRule x n m ∷ []))
-load-numbers t x n m =
-    says-or (one-of-more (record-numbers t) refl)
-    (says-or (one-of-more (source-numbers x) refl) (says-or (says-if (ltb n (sourceWidth x * sourceHeight x) || ltb m (sourceWidth x * sourceHeight x)) 13 0 (by refl)) accepts))
+load-numbers t x n m = input-says t x n m (one-of-more (record-numbers t) refl) (one-of-more (source-numbers x) refl) (by refl)
 
 call-numbers : (c : Call) (n : Lengths) (H : History) → OneOf callNumbers (refusedBy c n H)
 unfolding refusedBy

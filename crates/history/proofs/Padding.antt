@@ -1,41 +1,40 @@
 -- Unused bits and jobs: the proof of specs/Padding.
 --     job-padding     the claim
 -- Assumes nothing.
-use mathlib.Core.Bool.{true, not}
+use mathlib.Core.Bool.{true}
 use mathlib.Core.List.{List, _∷_}
 use mathlib.Core.Logic.{_≢_}
 use mathlib.Core.Path.{_≡_, refl}
 use Prim.Native.Nat.{ℕ}
-use lib.Dec.{eqb}
 use lib.ListN.{length, take}
 use Rattle.history.specs.Call.{load, collect, collected, answerOf, refusalOf}
 use Rattle.history.specs.Collect as collecting
 use Rattle.history.specs.Load.{loadVerdict}
 use Rattle.history.specs.Padding.{JobPadding}
 use Rattle.history.specs.Source.{Source, fromFile}
-use Rattle.history.specs.State.{State, unsound, readyVerdict}
-use Rattle.history.proofs.Never14.{inputNumbers, load-numbers}
+use Rattle.history.specs.State.{State, readyVerdict}
+use Rattle.history.proofs.Never14.{inputNumbers}
 use Rattle.history.proofs.Ready.{accepted-ready, ready-writable}
+use Rattle.history.proofs.Refusals.{load-says}
 use Rattle.history.proofs.Reload.{by-answer}
 use Rattle.history.proofs.SameSource.{SameSource, same-answer, same-course}
+use Rattle.history.proofs.Sources.{source-numbers}
 use Rattle.history.proofs.States.{collect-split}
 use Rattle.image.proofs.Ignored.{same-image}
 use Rattle.image.proofs.RoundTrip.{image-round-trip}
 use Rattle.image.specs.Padding.{unusedZero, cleared}
+use Rattle.table.proofs.Verdicts.{record-numbers}
 use Rattle.table.specs.declared.Table.{Table}
 use Rattle.verdict.specs.declared.Refusal.{Refusal}
 use Rattle.verdict.specs.declared.Verdict.the-variants.{Refused}
 use Rattle.verdict.specs.declared.Written.the-variants.{Length}
 use Rattle.verdict.specs.Numbers.{by, OneOf}
-use Rattle.verdict.proofs.Numbers.{says-if, says-or, one-of-more, one-of-other}
+use Rattle.verdict.proofs.Numbers.{one-of-more, one-of-other}
 use Rattle.verdict.proofs.Rules.{orElse-left}
 
 -- the numbers that a load is refused by
 load-refusals : (t : Table) (x : Source) (s : State) → OneOf (14 ∷ 15 ∷ inputNumbers) (loadVerdict t x s)
-unfolding loadVerdict
-load-refusals t x s =
-    says-or (says-if (unsound s) 14 0 (by refl))
-    (says-or (says-if (not (eqb (s .job .stage) 0)) 15 0 (by refl)) (one-of-more (load-numbers t x (length (s .first)) (length (s .second))) refl))
+load-refusals t x s = load-says t x s (by refl) (by refl) (one-of-more (record-numbers t) refl) (one-of-more (source-numbers x) refl) (by refl)
 
 -- files that differ in unused bits alone
 alike : (f g : List ℕ) → cleared f ≡ cleared g → SameSource (fromFile f) (fromFile g)

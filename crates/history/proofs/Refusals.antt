@@ -2,34 +2,55 @@
 --     written-refusal     a writer's answer holds its verdict's refusal
 --     zeroed              all else in a refused answer is zero, and the output is as it was
 --     unaltered           a refused call but a run alters neither record nor areas
+--     input-says, load-says     what a load is refused by because of its input, and by all its rules
 -- Assumes nothing.
-use mathlib.Core.Bool.{false}
-use mathlib.Core.List.{List}
+use mathlib.Core.Bool.{false, not, _||_}
+use mathlib.Core.List.{List, [], _∷_}
 use mathlib.Core.Path.{_≡_, refl, sym, ap, _∙_}
-use Prim.Native.Nat.{ℕ}
+use Prim.Native.Nat.{ℕ, _*_}
+use lib.Dec.{ltb, eqb}
 use lib.ListN.{length}
 use Rattle.history.specs.declared.Passed.{Passed}
 use Rattle.history.specs.declared.Passed.the-variants as passing
 use Rattle.history.specs.Answers.{passedVerdict}
 use Rattle.history.specs.Call.{Call, load, pass, run, view, figures, collect, isRun, answerOf, stateOf, refusalOf, refusing, passed}
 use Rattle.history.specs.Collect.{collected, collectVerdict, collectWritten, collectOutput, collectState}
-use Rattle.history.specs.Load.{loadState}
+use Rattle.history.specs.Load.{areasRule, loadVerdict, loadState}
 use Rattle.history.specs.Pass.{Outcome, passOf}
-use Rattle.history.specs.State.{State, readyVerdict}
+use Rattle.history.specs.Source.{Source, sourceVerdict, sourceWidth, sourceHeight}
+use Rattle.history.specs.State.{State, unsound, readyVerdict}
 use Rattle.history.specs.View.{viewOf, figuresOf}
 use Rattle.history.proofs.Passes as passes
 use Rattle.history.proofs.Passes.{Way, way}
 use Rattle.seq.proofs.Lists.{clash}
+use Rattle.table.specs.declared.Table.{Table}
+use Rattle.table.specs.Record.{recordVerdict}
 use Rattle.verdict.specs.Answers.{writtenVerdict}
 use Rattle.verdict.specs.declared.Refusal.{Refusal}
 use Rattle.verdict.specs.declared.Verdict.{Verdict}
 use Rattle.verdict.specs.declared.Verdict.the-variants.{Accepted, Refused}
+use Rattle.verdict.specs.Numbers.{Says, accepts}
+use Rattle.verdict.specs.Rules.{refusal, judge}
 use Rattle.verdict.specs.Writer.{writtenOf}
+use Rattle.verdict.proofs.Numbers.{says-if, says-or}
 use Rattle.verdict.proofs.Rules.{refused-accepted}
 
 pub written-refusal : (v : Verdict) (file : List ℕ) → writtenVerdict (writtenOf v file) ≡ v
 written-refusal Accepted file = refl
 written-refusal (Refused r) file = refl
+
+module _ {P : Refusal → Type 0} (t : Table) (x : Source) where
+  pub input-says : (n m : ℕ) → Says P (recordVerdict t) → Says P (sourceVerdict x) → P (refusal 13 0)
+      → Says P (judge (recordVerdict t ∷ sourceVerdict x ∷ areasRule x n m ∷ []))
+  input-says n m a b c =
+      says-or a (says-or b (says-or (says-if (ltb n (sourceWidth x * sourceHeight x) || ltb m (sourceWidth x * sourceHeight x)) 13 0 c) accepts))
+
+  pub load-says : (s : State) → P (refusal 14 0) → P (refusal 15 0) → Says P (recordVerdict t) → Says P (sourceVerdict x) → P (refusal 13 0)
+      → Says P (loadVerdict t x s)
+  unfolding loadVerdict
+  load-says s u v a b c =
+      says-or (says-if (unsound s) 14 0 u)
+      (says-or (says-if (not (eqb (s .job .stage) 0)) 15 0 v) (input-says (length (s .first)) (length (s .second)) a b c))
 
 passed-refused : (a : Passed) {r : Refusal} → passedVerdict a ≡ Refused r → a ≡ passing.Refused r
 passed-refused passing.Changed q = refused-accepted q refl

@@ -1,24 +1,21 @@
 -- Every call that answers 5 or 7 passes on witness and position, proved (specs/Witness).
 -- Assumes nothing.
-use mathlib.Core.Bool.{Bool, true, false, not, _||_}
+use mathlib.Core.Bool.{true, false, not}
 use mathlib.Core.List.{List, [], _∷_}
 use mathlib.Core.Path.{_≡_, refl, subst}
-use Prim.Native.Nat.{ℕ, _*_}
+use Prim.Native.Nat.{ℕ}
 use borrow.Author.Tests.{not-true}
 use lib.Dec.{ltb, eqb}
 use lib.ListN.{length}
 use Rattle.history.specs.Call.{Call, load, pass, run, view, figures, collect, isLoad, isCollect, answerOf, refusalOf}
 use Rattle.history.specs.Collect.{collected, collectVerdict, collectWritten}
 use Rattle.history.specs.Demand1.{stateNumbers}
-use Rattle.history.specs.Load.{loadVerdict}
-use Rattle.history.specs.Source.{Source, fromFile, sourceVerdict, sourceWidth, sourceHeight}
+use Rattle.history.specs.Source.{Source, fromFile, sourceVerdict}
 use Rattle.history.specs.State.{State, unsound}
 use Rattle.history.specs.Witness.{PassedOn}
-use Rattle.history.proofs.Refusals.{written-refusal}
+use Rattle.history.proofs.Refusals.{written-refusal, load-says}
 use Rattle.history.proofs.States.{given, only, by-state}
-use Rattle.image.specs.File.{fileVerdict}
-use Rattle.image.specs.Header.{headerForm, widthOf, heightOf, raster}
-use Rattle.image.specs.Size.{badSize, rowBytes}
+use Rattle.image.proofs.Facts.{file-says}
 use Rattle.table.proofs.Witness.{witnesses}
 use Rattle.table.specs.declared.Table.{Table}
 use Rattle.table.specs.Witness.{Neither, zeros, Witness, neither}
@@ -30,22 +27,12 @@ use Rattle.verdict.specs.Rules.{refusal}
 use Rattle.verdict.proofs.Numbers.{says-if, says-or, says-more, one-of-passes}
 
 source-says : (x : Source) → Says Neither (sourceVerdict x)
-unfolding fileVerdict
-source-says (fromFile f) =
-    says-or (says-if (not (headerForm f)) 9 0 (zeros refl))
-    (says-or (says-if (badSize (widthOf f) (heightOf f)) 10 0 (zeros refl))
-    (says-or (says-if (not (eqb (length (raster f)) (rowBytes (widthOf f) * heightOf f))) 11 0 (zeros refl)) accepts))
+source-says (fromFile f) = file-says f (zeros refl) (zeros refl) (zeros refl)
 
-load-says : (t : Table) (x : Source) (s : State) → Says (Witness t) (refusalOf (answerOf (load t x) s))
-unfolding answerOf loadVerdict
-load-says t x s =
-    says-or (says-if (unsound s) 14 0 (neither (zeros refl)))
-    (says-or (says-if (not (eqb (s .job .stage) 0)) 15 0 (neither (zeros refl)))
-    (says-or (witnesses .of-record t)
-    (says-or (says-more (λ r. neither) (source-says x)) (says-or (says-if short 13 0 (neither (zeros refl))) accepts))))
-  where
-    short : Bool
-    short = ltb (length (s .first)) (sourceWidth x * sourceHeight x) || ltb (length (s .second)) (sourceWidth x * sourceHeight x)
+load-witness : (t : Table) (x : Source) (s : State) → Says (Witness t) (refusalOf (answerOf (load t x) s))
+unfolding answerOf
+load-witness t x s =
+    load-says t x s (neither (zeros refl)) (neither (zeros refl)) (witnesses .of-record t) (says-more (λ r. neither) (source-says x)) (neither (zeros refl))
 
 -- a refusal because of the state is its number, at place 0
 state-says : (c : Call) (s : State) (r : Refusal) → refusalOf (answerOf c s) ≡ Refused r → among stateNumbers (r .number) ≡ true → Neither r
@@ -70,7 +57,7 @@ collect-says out s =
     (says-or (says-if (eqb (s .job .stage) 1) 17 0 (zeros refl)) (says-or (says-if (ltb (length out) (length (collected s))) 13 0 (zeros refl)) accepts))))
 
 pub passed-on : PassedOn
-passed-on (load t x) s = load-says t x s
+passed-on (load t x) s = load-witness t x s
 passed-on pass s = other-says pass s refl refl
 passed-on run s = other-says run s refl refl
 passed-on view s = other-says view s refl refl

@@ -1,7 +1,7 @@
 -- What an accepted file is, and what a refused one is refused by.
 --     FileGood, file-good, good-file     each rule of an accepted file, and an accepted file from its rules
 --     AcceptedFile, accepted-file        the image that it holds, as other crates use it
---     file-numbers                       the numbers that a file is refused by
+--     file-says, file-numbers            what a file is refused by, and by which numbers
 -- Assumes nothing.
 use mathlib.Core.Bool.{true, false, not}
 use mathlib.Core.List.{List, [], _∷_}
@@ -20,9 +20,10 @@ use Rattle.seq.proofs.Grid.{grid}
 use Rattle.seq.proofs.Members.{all-tab}
 use Rattle.seq.proofs.Tab.{length-tab}
 use Rattle.seq.specs.Lists.{all}
+use Rattle.verdict.specs.declared.Refusal.{Refusal}
 use Rattle.verdict.specs.declared.Verdict.the-variants.{Accepted}
-use Rattle.verdict.specs.Numbers.{by, OneOf, accepts}
-use Rattle.verdict.specs.Rules.{refuseIf}
+use Rattle.verdict.specs.Numbers.{Says, accepts, by, OneOf}
+use Rattle.verdict.specs.Rules.{refusal, refuseIf}
 use Rattle.verdict.proofs.Numbers.{says-if, says-or}
 use Rattle.verdict.proofs.Rules.{orElse-left, orElse-right, refuseIf-accepted}
 
@@ -65,9 +66,12 @@ accepted-file f e =
       binary = all-tab (λ v. leb v 1) pixel (widthOf f * heightOf f) (λ i l. le-leb (pixel i) 1 (omega arith));
     }
 
-pub file-numbers : (f : List ℕ) → OneOf (9 ∷ 10 ∷ 11 ∷ []) (fileVerdict f)
+pub file-says : {P : Refusal → Type 0} (f : List ℕ) → P (refusal 9 0) → P (refusal 10 0) → P (refusal 11 0) → Says P (fileVerdict f)
 unfolding fileVerdict
-file-numbers f =
-    says-or (says-if (not (headerForm f)) 9 0 (by refl))
-    (says-or (says-if (badSize (widthOf f) (heightOf f)) 10 0 (by refl))
-    (says-or (says-if (not (eqb (length (raster f)) (rowBytes (widthOf f) * heightOf f))) 11 0 (by refl)) accepts))
+file-says f a b c =
+    says-or (says-if (not (headerForm f)) 9 0 a)
+    (says-or (says-if (badSize (widthOf f) (heightOf f)) 10 0 b)
+    (says-or (says-if (not (eqb (length (raster f)) (rowBytes (widthOf f) * heightOf f))) 11 0 c) accepts))
+
+pub file-numbers : (f : List ℕ) → OneOf (9 ∷ 10 ∷ 11 ∷ []) (fileVerdict f)
+file-numbers f = file-says f (by refl) (by refl) (by refl)

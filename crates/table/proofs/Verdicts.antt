@@ -9,7 +9,7 @@
 --     record-count, record-place, record-persistents       the first rule that fails speaks
 --     ranks-refused, persistent-refused, persistents-accepted     the first of the rules behind those on the elements
 --     Sound t, record-sound, sound-record    what an accepted record has passed, both ways
---     record-numbers      the numbers that a record is refused by
+--     record-says, record-numbers    what a record is refused by, and by which numbers
 -- Assumes nothing.
 use mathlib.Core.Bool.{Bool, true, false, not}
 use mathlib.Core.List.{[], _∷_}
@@ -35,8 +35,9 @@ use Rattle.table.specs.Code.Search.{found, Misses, nowhere, at, badOf, l
 use Rattle.table.specs.Record.{maxElements, maxRanks, element, persistentAt, badCount, badRanks, badElement, badPersistent, badPlace, disjointFrom, missedBy, missedAt, apartRefusal, missedRefusal, persistentPlace, countRule, placesRule, ranksRule, persistentRule, meetRule, persistRule, recordVerdict}
 use Rattle.table.specs.Mask.{meets, unpartnered, persistentFor}
 use Rattle.table.proofs.Judging.{four-accepted}
+use Rattle.verdict.specs.declared.Refusal.{Refusal}
 use Rattle.verdict.specs.declared.Verdict.the-variants.{Accepted, Refused}
-use Rattle.verdict.specs.Numbers.{by, OneOf, accepts}
+use Rattle.verdict.specs.Numbers.{Says, accepts, by, OneOf}
 use Rattle.verdict.specs.Rules.{witnessed, refusal, orElse, judge}
 use Rattle.verdict.proofs.Numbers.{says-if, says-by, says-at, says-or}
 use Rattle.verdict.proofs.Rules.{refuseIf-accepted, refuseAt-accepted, orElse-accepted, orElse-left, orElse-right}
@@ -167,12 +168,17 @@ record-sound t q =
 pub sound-record : (t : Table) → Sound t → recordVerdict t ≡ Accepted
 sound-record t s = record-persistents t (s .counted) (s .placed) ∙ persistents-accepted t (s .ranked) (s .ordered) ∙ s .related
 
+module _ {P : Refusal → Type 0} (t : Table) where
+  pub record-says : P (refusal 3 0) → ((p : ℕ) → P (refusal 4 p)) → ((p : ℕ) → P (refusal 18 p)) → ((p : ℕ) → P (refusal 6 p))
+      → Says P (meetRule t) → Says P (persistRule t) → Says P (recordVerdict t)
+  unfolding recordVerdict
+  record-says a b c d x y =
+      says-or (says-if (badCount (t .count)) 3 0 a)
+      (says-or (says-at (lowestElement t) 4 suc b)
+      (says-or (says-if (badRanks 1 (t .ranks)) 18 (t .count + 1) (c (t .count + 1)))
+      (says-or (says-at (lowestPersistent t) 6 (persistentPlace t) d) (says-or x (says-or y accepts)))))
+
 pub record-numbers : (t : Table) → OneOf (3 ∷ 4 ∷ 18 ∷ 6 ∷ 5 ∷ 7 ∷ []) (recordVerdict t)
-unfolding recordVerdict
 record-numbers t =
-    says-or (says-if (badCount (t .count)) 3 0 (by refl))
-    (says-or (says-at (lowestElement t) 4 suc (λ p. by refl))
-    (says-or (says-if (badRanks 1 (t .ranks)) 18 (t .count + 1) (by refl))
-    (says-or (says-at (lowestPersistent t) 6 (persistentPlace t) (λ p. by refl))
-    (says-or (says-by (lowestApart t) (apartRefusal t) (λ k e. by refl))
-    (says-or (says-by (lowestMissed t) (missedRefusal t) (λ k e. by refl)) accepts)))))
+    record-says t (by refl) (λ p. by refl) (λ p. by refl) (λ p. by refl)
+    (says-by (lowestApart t) (apartRefusal t) (λ k e. by refl)) (says-by (lowestMissed t) (missedRefusal t) (λ k e. by refl))

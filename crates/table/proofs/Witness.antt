@@ -2,7 +2,7 @@
 -- Assumes nothing.
 use mathlib.Core.Bool.{Bool, true, false, not, cond, _&&_}
 use mathlib.Core.List.{List, [], _∷_, _++_}
-use mathlib.Core.Option.{Option, none, some}
+use mathlib.Core.Option.{Option, none, some, Option·getD}
 use mathlib.Core.Path.{_≡_, refl, sym, ap, _∙_}
 use Prim.Native.Nat.{ℕ, suc, _+_, _-_, _<_}
 use native.Mathlib.Omega.{arith}
@@ -17,16 +17,16 @@ use Rattle.table.specs.declared.Table.{Table}
 use Rattle.table.specs.File.{several, body, rest, elementCount, elementBytes, rankBytes, rankCount, persistentBytes, firstPlace, tableOf, bytesLeft, masksRules, countRules, elementsRules, ranksRules, persistentsRules, lastRules, fileParts, fileVerdict}
 use Rattle.table.specs.Mask.{positionCount, meets, partner, unpartnered, persistentFor}
 use Rattle.table.specs.Number.{ends, tooLong, notFewest, numberRules}
-use Rattle.table.specs.Record.{element, persistentAt, badCount, badRanks, badElement, badPersistent, disjointFrom, missedBy, orZero, fromOne, missedAt, apartRefusal, missedRefusal, persistentPlace, meetRule, persistRule, recordVerdict}
+use Rattle.table.specs.Record.{element, persistentAt, badCount, badRanks, badElement, badPersistent, disjointFrom, missedBy, fromOne, missedAt, apartRefusal, missedRefusal, meetRule, persistRule, recordVerdict}
 use Rattle.table.specs.Witness.{elementNo, persistentNo, Apart, Missed, zeros, Witness, apart, missed, neither, Witnesses}
 use Rattle.table.proofs.Judging.{says-each}
 use Rattle.table.proofs.Places.{missed-is}
-use Rattle.table.proofs.Verdicts.{lowestElement, lowestPersistent, lowestApart, lowestMissed, meets-each, persistent-each}
+use Rattle.table.proofs.Verdicts.{lowestApart, lowestMissed, meets-each, persistent-each, record-says}
 use Rattle.verdict.specs.declared.Refusal.{Refusal}
 use Rattle.verdict.specs.declared.Verdict.{Verdict}
 use Rattle.verdict.specs.Numbers.{Says, accepts, among}
-use Rattle.verdict.specs.Rules.{witnessed, refuseIf, judge}
-use Rattle.verdict.proofs.Numbers.{says-if, says-by, says-at, says-or, says-append}
+use Rattle.verdict.specs.Rules.{witnessed, refusal, refuseIf, judge}
+use Rattle.verdict.proofs.Numbers.{says-if, says-by, says-or, says-append}
 
 -- places count from 1
 element-no : (t : Table) (k : ℕ) → elementNo t (suc k) ≡ element t k
@@ -103,13 +103,17 @@ module _ (t : Table) (k : ℕ) where
   unfolding missedAt
   missed-witness e = step (missedBy t k) refl
     where
-      at : (r : ℕ) → missedBy t k ≡ some r → (o : Option ℕ) → unpartnered (persistentAt t r) (element t k) ≡ o → Witness t (witnessed 7 (suc k) (suc r) (orZero o))
+      at : (r : ℕ) → missedBy t k ≡ some r → (o : Option ℕ) → unpartnered (persistentAt t r) (element t k) ≡ o → Witness t (witnessed 7 (suc k) (suc r) (Option·getD o 0))
       at r q none p = clash (missed-some r q) (ap isSome p)
       at r q (some n) p = missed (missed-of e r q n p)
 
-      step : (o : Option ℕ) → missedBy t k ≡ o → Witness t (witnessed 7 (suc k) (fromOne o) (orZero (unpartnered (persistentAt t (orZero o)) (element t k))))
+      step : (o : Option ℕ) → missedBy t k ≡ o → Witness t (witnessed 7 (suc k) (fromOne o) (Option·getD (unpartnered (persistentAt t (Option·getD o 0)) (element t k)) 0))
       step none q = clash (first-found (λ i. isSome (missedBy t i)) (t .count) k e .passes) (ap isSome q)
       step (some r) q = at r q (unpartnered (persistentAt t r) (element t k)) refl
+
+-- another number than 5 and 7
+other : {t : Table} {n p : ℕ} → among (5 ∷ 7 ∷ []) n ≡ false → Witness t (refusal n p)
+other m = neither (zeros m)
 
 -- the rules 5 and 7
 module _ (t : Table) where
@@ -119,24 +123,18 @@ module _ (t : Table) where
   persist-says : Says (Witness t) (persistRule t)
   persist-says = says-by (lowestMissed t) (missedRefusal t) (missed-witness t)
 
-  record-says : Says (Witness t) (recordVerdict t)
-  unfolding recordVerdict
-  record-says =
-      says-or (says-if (badCount (t .count)) 3 0 (neither (zeros refl)))
-      (says-or (says-at (lowestElement t) 4 suc (λ p. neither (zeros refl)))
-      (says-or (says-if (badRanks 1 (t .ranks)) 18 (t .count + 1) (neither (zeros refl)))
-      (says-or (says-at (lowestPersistent t) 6 (persistentPlace t) (λ p. neither (zeros refl)))
-      (says-or meet-says (says-or persist-says accepts)))))
+  record-witness : Says (Witness t) (recordVerdict t)
+  record-witness = record-says t (other refl) (λ p. other refl) (λ p. other refl) (λ p. other refl) meet-says persist-says
 
 -- a file's other rules refuse with zeros
 module _ {t : Table} where
   number-says : (p : ℕ) (l : List ℕ) → Says (Witness t) (judge (numberRules p l))
   number-says p l =
-      says-or (says-if (ends l) 1 p (neither (zeros refl)))
-      (says-or (says-if (tooLong l) 2 p (neither (zeros refl))) (says-or (says-if (notFewest l) 2 p (neither (zeros refl))) accepts))
+      says-or (says-if (ends l) 1 p (other refl))
+      (says-or (says-if (tooLong l) 2 p (other refl)) (says-or (says-if (notFewest l) 2 p (other refl)) accepts))
 
   then-says : (p : ℕ) (l : List ℕ) (bad : Bool) (i q : ℕ) → among (5 ∷ 7 ∷ []) i ≡ false → Says (Witness t) (judge (numberRules p l ++ refuseIf bad i q ∷ []))
-  then-says p l bad i q m = says-append (numberRules p l) (refuseIf bad i q ∷ []) (number-says p l) (says-or (says-if bad i q (neither (zeros m))) accepts)
+  then-says p l bad i q m = says-append (numberRules p l) (refuseIf bad i q ∷ []) (number-says p l) (says-or (says-if bad i q (other m)) accepts)
 
   masks-says : (h : List ℕ) (p n : ℕ) (bad : ℕ → Bool) (i : ℕ) → among (5 ∷ 7 ∷ []) i ≡ false → Says (Witness t) (judge (masksRules h p n bad i))
   masks-says h p n bad i m =
@@ -146,9 +144,9 @@ module _ {t : Table} where
   if-says true vs h = h
   if-says false vs h = accepts
 
-file-says : (f : List ℕ) → Says (Witness (tableOf f)) (fileVerdict f)
+file-witness : (f : List ℕ) → Says (Witness (tableOf f)) (fileVerdict f)
 unfolding fileVerdict
-file-says f =
+file-witness f =
     says-append (numberRules 0 f) (behind 1) (number-says 0 f)
     (says-append (countRules f) (behind 2) (then-says 0 (body f) (badCount (tableOf f .count)) 3 0 refl)
     (says-append (elementsRules f) (behind 3) (masks-says (elementBytes f) 1 (elementCount f) (badElement (tableOf f)) 4 refl)
@@ -168,7 +166,7 @@ file-says f =
 
     last : Says (Witness (tableOf f)) (judge (lastRules f))
     last =
-        says-or (says-if (bytesLeft f) 8 (firstPlace f + rankCount f) (neither (zeros refl)))
+        says-or (says-if (bytesLeft f) 8 (firstPlace f + rankCount f) (other refl))
         (says-or (meet-says (tableOf f)) (says-or (persist-says (tableOf f)) accepts))
 
 -- the fields, by the number
@@ -189,4 +187,4 @@ module _ {t : Table} where
   by-others (neither (zeros n)) m = (refl, refl)
 
 pub witnesses : Witnesses
-witnesses = record { of-record = record-says; of-file = file-says; by-5 = by-5; by-7 = by-7; by-others = by-others }
+witnesses = record { of-record = record-witness; of-file = file-witness; by-5 = by-5; by-7 = by-7; by-others = by-others }

@@ -13,7 +13,7 @@
 --     badPlace ms n bad k    on any place k of a record, of which n are in use: `bad k` on those, and the others are zero
 --     disjointFrom t k    rule 5: the lowest earlier element that shares no position with element k
 --     missedBy t k        rule 7: the lowest of the persistent elements that is not persistent for element k
---     orZero o            what a search found, 0 where it found nothing; fromOne o: the same counted from 1
+--     fromOne o           what a search found, counted from 1; 0 where it found nothing
 --     missedAt t k        the lowest position of that persistent element that has no partner in element k
 --     apartRefusal t k    5 at element k, with that earlier element; missedRefusal t k: 7 at element k, with that persistent element's rank and the position
 --     persistentPlace t r    the place of a persistent element: count + 1 and its rank from 1, but count + 1 where it is the only one
@@ -23,7 +23,7 @@
 -- Assumes nothing.
 use mathlib.Core.Bool.{Bool, not, cond, _&&_, _||_}
 use mathlib.Core.List.{List, [], _∷_}
-use mathlib.Core.Option.{Option, none, some}
+use mathlib.Core.Option.{Option, Option·map, Option·getD}
 use Prim.Native.Nat.{ℕ, suc, _+_, _-_}
 use lib.Dec.{leb, ltb, eqb}
 use lib.ListN.{getD, take, replicate}
@@ -84,16 +84,11 @@ disjointFrom t k = first (λ j. not (meets (element t k) (element t j))) k
 unfoldable pub missedBy : Table → ℕ → Option ℕ
 missedBy t k = first (λ r. not (persistentFor (persistentAt t r) (element t k))) (t .ranks)
 
-abbrev pub orZero : Option ℕ → ℕ
-orZero none = 0
-orZero (some k) = k
-
 abbrev pub fromOne : Option ℕ → ℕ
-fromOne none = 0
-fromOne (some k) = suc k
+fromOne o = Option·getD (Option·map suc o) 0
 
 unfoldable pub missedAt : Table → ℕ → ℕ
-missedAt t k = orZero (unpartnered (persistentAt t (orZero (missedBy t k))) (element t k))
+missedAt t k = Option·getD (unpartnered (persistentAt t (Option·getD (missedBy t k) 0)) (element t k)) 0
 
 abbrev pub apartRefusal : Table → ℕ → Refusal
 apartRefusal t k = witnessed 5 (suc k) (fromOne (disjointFrom t k)) 0
