@@ -2,21 +2,11 @@
 
 mod common;
 
-use common::report;
+use common::{loaded, report, view};
 use mask_cleaner::cases::{named_tables, random_image, random_table, Random};
 use mask_cleaner::job::{Job, Table};
 use mask_cleaner::record::Progress;
-use mask_cleaner::reference::image::{file_of, Image};
-
-fn loaded(table: &Table, image: &Image) -> Job {
-    let mut job = Job::for_pixels(image.pixels.len());
-    job.load(table, &file_of(image)).expect("an accepted load");
-    job
-}
-
-fn view(job: &Job) -> &[u8] {
-    job.view().expect("an accepted view")
-}
+use mask_cleaner::reference::image::Image;
 
 fn table(random: &mut Random) -> Table {
     let record = if random.percent(20) {

@@ -44,12 +44,16 @@ rested-last {e = e} {n = n} r q =
     all-rest (e .table) (e .width) (e .height) (r .accepted) .first (firstOf e) (r .begun) n (rw (r .tallied) (r .stable q)) ∙ r .tallied
 
 module _ {w w' : Course} {e e' : Entry} (two : Twins w w' e e') (r : Held (w .state) e (w .tally)) (r' : Held (w' .state) e' (w' .tally)) where
+  -- the second's last image, by the first's table, size and number of passes
+  tallied : w .tally ≡ w' .tally → passes (e .table) (e .width) (e .height) (w .tally) (firstOf e') ≡ e' .last
+  tallied same = rw (same, two .table, two .width, two .height) (r' .tallied)
+
   -- as many passes as both have made, or the operator that gives the rested image
   shared : (w .tally ≡ w' .tally) ⊎ ((e .settled ≡ true) × (e' .settled ≡ true)) → Shared e e'
   shared (inl same) = record {
     operator = passes (e .table) (e .width) (e .height) (w .tally);
     here = r .tallied;
-    there = rw (same, two .table, two .width, two .height) (r' .tallied);
+    there = tallied same;
     exchanging = λ img i. exchange-passes (e .table) (e .width) (e .height) img (r .accepted) i (w .tally);
     ordering = λ a b i j c. order-passes (e .table) (e .width) (e .height) a b (r .accepted) i j c (w .tally);
   }

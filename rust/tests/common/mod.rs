@@ -1,10 +1,11 @@
-//! What the tests share: a job's state under the library or the reference, what lists of calls are made of, and a tally of answers.
+//! What the tests share: a loaded job, a job's state under the library or the reference, what lists of calls are made of, and a tally of answers.
 #![allow(dead_code)]
 
 use mask_cleaner::cases::{random_image, random_table, Random};
+use mask_cleaner::job::{Job, Table};
 use mask_cleaner::model::{Answer, Call};
 use mask_cleaner::record::{JobRecord, Reason, Refusal, TableRecord, MAX_RANKS, PLACES};
-use mask_cleaner::reference::image::file_of;
+use mask_cleaner::reference::image::{file_of, Image};
 use mask_cleaner::{library, reference};
 use std::collections::BTreeMap;
 use std::io::Write;
@@ -15,6 +16,18 @@ pub mod tables;
 /// Prints a line past the capture of the test runner.
 pub fn report(line: &str) {
     writeln!(std::io::stdout(), "    {line}").expect("standard output takes a line");
+}
+
+/// A job of the library with the image loaded.
+pub fn loaded(table: &Table, image: &Image) -> Job {
+    let mut job = Job::for_pixels(image.pixels.len());
+    job.load(table, &file_of(image)).expect("an accepted load");
+    job
+}
+
+/// The present image of a job that holds one.
+pub fn view(job: &Job) -> &[u8] {
+    job.view().expect("an accepted view")
 }
 
 /// A job's record and areas.
