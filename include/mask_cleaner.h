@@ -200,7 +200,8 @@ mask_checked mask_load(mask_job *job, mask_table table, const uint8_t *file, siz
 /* One pass of the filter: the new image goes to the area that does not hold the present one. If pixels changed, passes,
    added and removed rise. If none did, the stage becomes stable and `stable` is 1. At stage stable nothing is written and
    `stable` is 1. Refused by 14, 16; and by 14 where the counts would rise above the number of pixels, which no job does
-   that only these calls wrote. */
+   that only these calls wrote. After k passes a pixel depends on no pixel of the loaded image that is more than 6 x k rows
+   or columns away. */
 mask_progress mask_pass(mask_job *job, uint8_t *first, size_t first_length, uint8_t *second, size_t second_length);
 
 /* Passes until one changes nothing; `stable` is then 1. That takes at most width x height + 1 passes: every pass but the

@@ -64,6 +64,16 @@ pub fn cobbles() -> TableRecord {
     TableRecord::new(&[141_440], &[12_288, 135_168])
 }
 
+/// 02's table that sees six rows far (T-09): the pixels two above and two below, kept by five in a column.
+pub fn long_column() -> TableRecord {
+    TableRecord::new(&[4_194_308], &[4_329_604])
+}
+
+/// The same turned: six columns.
+pub fn long_row() -> TableRecord {
+    TableRecord::new(&[17_408], &[31_744])
+}
+
 /// 01's median: the 56 five-point subsets, kept by 4 × 4 without corners.
 pub fn median() -> TableRecord {
     TableRecord::new(&median_elements(), &[13_597_056])

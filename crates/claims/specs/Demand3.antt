@@ -7,7 +7,7 @@
 --     pass-answer, view-answer, figures-answer, collect-answer, run-answer, run-as-passes     what each call answers
 --     rest-view, rest-counts, rest-answers     a stable image that was loaded
 --     reload-accepted, reload-view, reload-counts, reload-answers     what an accepted collect wrote, loaded again
---     exchanged, ordered     two jobs with one table and one size
+--     exchanged, ordered, located     two jobs with one table and one size
 -- Assumes nothing.
 use mathlib.Core.Bool.{true, false}
 use mathlib.Core.List.{List}
@@ -16,7 +16,7 @@ use mathlib.Core.Path.{_≡_}
 use Prim.Native.Nat.{ℕ, _+_, _*_, _≤_, _<_}
 use lib.IntN.{subℕ}
 use lib.ListN.{length, getD, replicate, take}
-use Rattle.operator.specs.Image.{IsImage, black, added, removed, differsAt, exchange}
+use Rattle.operator.specs.Image.{pixel, IsImage, black, added, removed, differsAt, exchange}
 use Rattle.operator.specs.Pass as operator
 use Rattle.history.proofs.Demand3.{demand-3}
 use Rattle.history.specs.declared.Figured.the-variants.{Figures}
@@ -203,3 +203,12 @@ module _ (cs cs' : List Call) (a b a' b' : List ℕ) (e e' : Entry) (h : course 
       → (i : ℕ) → i < length (viewOf (state cs a b)) → getD (viewOf (state cs a b)) i 0 ≤ getD (viewOf (state cs' a' b')) i 0
   ordered =
       demand-3 .ordered cs cs' a b a' b' e e' (record { here = h; there = h'; table = t; width = w; height = l; together = k })
+
+  -- equally many passes, and first images that agree within 6 × that of a pixel (02, T-09)
+  pub located : course cs a b .tally ≡ course cs' a' b' .tally → (r c : ℕ) → r < e .height → c < e .width
+      → ((r' c' : ℕ) → r' < e .height → c' < e .width → (r ≤ r' + 6 * course cs a b .tally) × (r' ≤ r + 6 * course cs a b .tally)
+      → (c ≤ c' + 6 * course cs a b .tally) × (c' ≤ c + 6 * course cs a b .tally)
+      → pixel (e .width) (firstOf e) r' c' ≡ pixel (e .width) (firstOf e') r' c')
+      → pixel (e .width) (viewOf (state cs a b)) r c ≡ pixel (e .width) (viewOf (state cs' a' b')) r c
+  located =
+      demand-3 .located cs cs' a b a' b' e e' (record { here = h; there = h'; table = t; width = w; height = l; together = k })

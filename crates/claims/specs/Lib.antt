@@ -2,6 +2,7 @@ pub mod Answers
 pub mod Files
 pub mod Figures
 pub mod Images
+pub mod Locality
 pub mod Demand1
 pub mod Demand2
 pub mod Demand3

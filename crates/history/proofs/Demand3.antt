@@ -15,7 +15,7 @@ use Rattle.history.proofs.After.{held, after-related}
 use Rattle.history.proofs.Lists.{played-related, played-lengths, play-append}
 use Rattle.history.proofs.Related.{Held}
 use Rattle.history.proofs.Reload.{reloads}
-use Rattle.history.proofs.Twins.{exchanged, ordered, rests}
+use Rattle.history.proofs.Twins.{exchanged, ordered, located, rests}
 
 after-list : (cs : List Call) (a b : List ℕ) → AfterList (lent a b) (played cs a b)
 after-list cs a b = after-related (lent a b) (played cs a b) (played-related cs a b) (played-lengths cs a b)
@@ -34,6 +34,7 @@ demand-3 = record {
   inside = inside;
   exchanged = λ cs cs' a b a' b' e e' two. exchanged two (held-after cs a b e (two .here)) (held-after cs' a' b' e' (two .there));
   ordered = λ cs cs' a b a' b' e e' two. ordered two (held-after cs a b e (two .here)) (held-after cs' a' b' e' (two .there));
+  located = λ cs cs' a b a' b' e e' two. located two (held-after cs a b e (two .here)) (held-after cs' a' b' e' (two .there));
   rests = λ cs a b e q. rests (held-after cs a b e q);
   reloaded = λ cs a b out e m after q. reloads (played cs a b) (played-related cs a b) e q out;
 }

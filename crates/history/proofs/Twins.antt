@@ -2,20 +2,22 @@
 --     rested-last        a settled entry's last image is the rested one
 --     Shared e e'        one operator takes the first images to the last ones, and keeps exchange and order
 --     shared             two such jobs have one
---     exchanged, ordered, rests     the claims
+--     exchanged, ordered, located, rests     the claims
 -- Assumes nothing.
 use mathlib.Core.Bool.{true}
 use mathlib.Core.List.{List, []}
 use mathlib.Core.Logic.{_⊎_, inl, inr}
 use mathlib.Core.Path.{_≡_, sym, ap, _∙_, subst₂}
-use Prim.Native.Nat.{ℕ}
+use Prim.Native.Nat.{ℕ, _*_, _<_}
 use lib.ListN.{length}
 use Rattle.operator.specs.Heijmans.{modified}
-use Rattle.operator.specs.Image.{IsImage, added, removed, exchange, Below}
+use Rattle.operator.specs.Image.{pixel, IsImage, added, removed, exchange, Below}
+use Rattle.operator.specs.Locality.{reach, Alike}
 use Rattle.operator.specs.Pass.{passes, Stable}
 use Rattle.operator.specs.Rest.{rested}
 use Rattle.operator.proofs.Exchange.{exchange-passes}
 use Rattle.operator.proofs.Heijmans.{all-heijmans}
+use Rattle.operator.proofs.Locality.{locality}
 use Rattle.operator.proofs.Order.{order-passes}
 use Rattle.operator.proofs.Rest.{all-rest}
 use Rattle.history.specs.Call.{passed, answerOf}
@@ -79,6 +81,14 @@ module _ {w w' : Course} {e e' : Entry} (two : Twins w w' e e') (r : Held (w .st
       let f = shared (two .together) in
       subst₂ Below (f .here ∙ sym (view-held r)) (f .there ∙ sym (view-held r'))
       (f .ordering (firstOf e) (firstOf e') (r .begun) (rw (two .width, two .height) (r' .begun)) c)
+
+  pub located : w .tally ≡ w' .tally → (x y : ℕ) → x < e .height → y < e .width
+      → Alike (reach * w .tally) (e .width) (e .height) (firstOf e) (firstOf e') x y
+      → pixel (e .width) (viewOf (w .state)) x y ≡ pixel (e .width) (viewOf (w' .state)) x y
+  located same x y l m alike =
+      ap (λ img. pixel (e .width) img x y) (view-held r ∙ sym (r .tallied))
+      ∙ locality (e .table) (e .width) (e .height) (firstOf e) (firstOf e') (w .tally) x y l m alike
+      ∙ ap (λ img. pixel (e .width) img x y) (tallied same ∙ sym (view-held r'))
 
 -- every pass on a stable image is quiet, so there is no step from it
 pub rests : {s : State} {e : Entry} {n : ℕ} → Held s e n → Stable (e .table) (e .width) (e .height) (firstOf e) → Rests (firstOf e) s

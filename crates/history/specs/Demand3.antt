@@ -14,10 +14,11 @@ use mathlib.Core.Bool.{true, false}
 use mathlib.Core.List.{List}
 use mathlib.Core.Logic.{_↔_, _⊎_, _≢_}
 use mathlib.Core.Path.{_≡_}
-use Prim.Native.Nat.{ℕ, _+_, _*_, _≤_}
+use Prim.Native.Nat.{ℕ, _+_, _*_, _≤_, _<_}
 use lib.ListN.{length, replicate, take}
 use Rattle.operator.specs.Heijmans.{modified}
-use Rattle.operator.specs.Image.{IsImage, black, added, removed, differsAt, exchange, Below}
+use Rattle.operator.specs.Image.{pixel, IsImage, black, added, removed, differsAt, exchange, Below}
+use Rattle.operator.specs.Locality.{reach, Alike}
 use Rattle.operator.specs.Pass as operator
 use Rattle.history.specs.declared.Passed.the-variants.{Changed, Stable}
 use Rattle.history.specs.Answered.{answeredBy}
@@ -127,6 +128,11 @@ pub record Demand3 : Type 0 where
       → firstOf e' ≡ exchange (firstOf e) → viewOf (played cs' a' b' .state) ≡ exchange (viewOf (played cs a b .state))
   pub ordered : (cs cs' : List Call) (a b a' b' : List ℕ) (e e' : Entry) → Twins (played cs a b) (played cs' a' b') e e'
       → Below (firstOf e) (firstOf e') → Below (viewOf (played cs a b .state)) (viewOf (played cs' a' b' .state))
+  -- after equally many accepted passes, a pixel near which the first images agree is the same in both (02, T-09)
+  pub located : (cs cs' : List Call) (a b a' b' : List ℕ) (e e' : Entry) → Twins (played cs a b) (played cs' a' b') e e'
+      → played cs a b .tally ≡ played cs' a' b' .tally → (r c : ℕ) → r < e .height → c < e .width
+      → Alike (reach * played cs a b .tally) (e .width) (e .height) (firstOf e) (firstOf e') r c
+      → pixel (e .width) (viewOf (played cs a b .state)) r c ≡ pixel (e .width) (viewOf (played cs' a' b' .state)) r c
   -- a stable image that was loaded
   pub rests : (cs : List Call) (a b : List ℕ) (e : Entry) → played cs a b .history ≡ holds e
       → operator.Stable (e .table) (e .width) (e .height) (firstOf e) → Rests (firstOf e) (played cs a b .state)

@@ -1,4 +1,5 @@
 pub mod Cases
+pub mod Parts
 pub mod Digits
 pub mod NumberAt
 pub mod HeaderOf

@@ -14,3 +14,6 @@ pub mod Kept
 pub mod Window
 pub mod Pattern
 pub mod PreviewPlain
+pub mod Seen
+pub mod Locality
+pub mod Exact
