@@ -1,5 +1,5 @@
 -- Six rows and columns are needed.
---     exact     five in a row, held by the pixels two to the left and two to the right, see six columns far
+--     exact     with the pixels two to the left and two to the right, and five in a row, a pass sees six columns far
 -- Assumes nothing.
 use mathlib.Core.List.{List, _∷_}
 use mathlib.Core.Logic.{⊎-elim}
@@ -24,19 +24,19 @@ unfolding recordVerdict masks persistents badCount badRanks badPlace badElement 
     positions validMask meets sumInside sum partner unpartnered persistentFor bit bitsOf upTo
 accepted = refl
 
--- a gap of three pixels that the pixel at column 0, black or white, lies six columns from
-abbrev sheet : ℕ → List ℕ
-sheet v = v ∷ gapped 4 5
+-- a gap of three pixels; from its middle, column 0 with the value v is six columns away
+abbrev image : ℕ → List ℕ
+image v = v ∷ gapped 4 5
 
 -- a pass fills the middle of the gap with column 0 black, and leaves it with column 0 white
-differ : pixel 13 (passes longRow 13 1 1 (sheet 1)) 0 6 ≡ pixel 13 (passes longRow 13 1 1 (sheet 0)) 0 6 → ⊥
+differ : pixel 13 (passes longRow 13 1 1 (image 1)) 0 6 ≡ pixel 13 (passes longRow 13 1 1 (image 0)) 0 6 → ⊥
 unfolding inside solid opened held passAt pass positions masks persistents bit bitsOf upTo
 differ e = omega (arith, e)
 
-alike : (d : ℕ) → d < reach → Alike (d * 1) 13 1 (sheet 1) (sheet 0) 0 6
+alike : (d : ℕ) → d < reach → Alike (d * 1) 13 1 (image 1) (image 0) 0 6
 alike d l r c i j rows (near, far) = behind (r * 13 + c) (omega arith)
   where
-    behind : (k : ℕ) → 0 < k → getD (sheet 1) k 0 ≡ getD (sheet 0) k 0
+    behind : (k : ℕ) → 0 < k → getD (image 1) k 0 ≡ getD (image 0) k 0
     behind zero m = absurd (omega arith)
     behind (suc k) m = refl
 
@@ -44,4 +44,4 @@ pub exact : Exact
 exact = (longRow, accepted, λ d sees. ⊎-elim (too-near d sees) (λ l. l) (lt-or-le d reach))
   where
     too-near : (d : ℕ) → Sees d longRow → d < reach → reach ≤ d
-    too-near d sees l = absurd (differ (sees 13 1 (sheet 1) (sheet 0) 1 0 6 (lit< tt) (lit< tt) (alike d l)))
+    too-near d sees l = absurd (differ (sees 13 1 (image 1) (image 0) 1 0 6 (lit< tt) (lit< tt) (alike d l)))

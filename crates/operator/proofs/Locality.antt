@@ -24,23 +24,23 @@ pub pass-at : (t : Table) (w h : ℕ) (img : List ℕ) (r c : ℕ) → r < h →
 unfolding pass
 pass-at t w h img r c l m = cell-tab w (passAt t w h img) 0 (cell-at l m)
 
-module _ (h H top : ℕ) (tall : top + h ≤ H) (w : ℕ) (a b : List ℕ) (t : Table) where
+module _ (h top w : ℕ) (a b : List ℕ) (H : ℕ) (tall : top + h ≤ H) (t : Table) where
   -- what one pass sees is within reach, and agrees after the passes before
-  pub passes-seen : (k r c : ℕ) → r < h → c < w → Side (reach * k) top h H r → Agree h H top tall w a b (reach * k) r c
+  pub passes-seen : (k r c : ℕ) → r < h → c < w → Side (reach * k) top h H r → Agree h top w a b (reach * k) r c
       → pixel w (passes t w h k a) r c ≡ pixel w (passes t w H k b) (top + r) c
   passes-seen zero r c l m s g = g r c l m (omega arith, omega arith) (omega arith, omega arith)
   passes-seen (suc k) r c l m s g =
       pass-at t w h (passes t w h k a) r c l m
-      ∙ passAt-seen h H top tall w (passes t w h k a) (passes t w H k b) t r c l m
+      ∙ passAt-seen h top w (passes t w h k a) (passes t w H k b) H tall t r c l m
       (side-near reach 0 r (omega arith) (omega arith, omega arith) s)
       (λ r' c' i j rows columns. passes-seen k r' c' i j
       (side-near (reach * k) reach r' (omega arith) rows s)
-      (agree-near h H top tall w a b (reach * k) reach r' c' (omega arith) rows columns g))
+      (agree-near h top w a b (reach * k) reach r' c' (omega arith) rows columns g))
       ∙ sym (pass-at t w H (passes t w H k b) (top + r) c (omega arith) m)
 
 pub locality : Locality
 locality t w h a b k r c l m same =
-    passes-seen h h 0 (omega arith) w a b t k r c l m (record { upper = inl refl; lower = inl (omega arith) })
+    passes-seen h 0 w a b h (omega arith) t k r c l m (record { upper = inl refl; lower = inl (omega arith) })
     (λ r' c' i j p q. same r' c' i j p q ∙ ap (λ z. pixel w b z c') (omega arith))
     ∙ ap (λ z. pixel w (passes t w h k b) z c) (omega arith)
 
@@ -53,6 +53,6 @@ part-side hs i d r s = record {
 
 pub part-alone : PartAlone
 part-alone t w hs img k i r c l m n s =
-    sym (passes-seen (getD hs i 0) (sumOf hs) (above hs i) (part-ends hs i l) w (partOf w hs i img) img t k r c m n
+    sym (passes-seen (getD hs i 0) (above hs i) w (partOf w hs i img) img (sumOf hs) (part-ends hs i l) t k r c m n
     (part-side hs i (reach * k) r s)
     (λ r' c' u v p q. rows-at w (above hs i) (getD hs i 0) img r' c' u v))

@@ -68,20 +68,21 @@ module _ (h H top : ℕ) (tall : top + h ≤ H) where
           let x = inside-elim w H (top + r) c n m e in
           inside-intro (record { rows = fits-back r (omega arith) (omega arith) s (x .rows); columns = x .columns })
 
-  module _ (w : ℕ) (a b : List ℕ) where
-    abbrev pub Agree : ℕ → ℕ → ℕ → Type 0
-    Agree d r c = (r' c' : ℕ) → r' < h → c' < w → Near d r r' → Near d c c' → pixel w a r' c' ≡ pixel w b (top + r') c'
+module _ (h top w : ℕ) (a b : List ℕ) where
+  abbrev pub Agree : ℕ → ℕ → ℕ → Type 0
+  Agree d r c = (r' c' : ℕ) → r' < h → c' < w → Near d r r' → Near d c c' → pixel w a r' c' ≡ pixel w b (top + r') c'
 
-    pub agree-near : {D r c : ℕ} (d e r' c' : ℕ) → d + e ≤ D → Near e r r' → Near e c c' → Agree D r c → Agree d r' c'
-    agree-near d e r' c' less (p, q) (p', q') g r'' c'' i j (x, y) (x', y') = g r'' c'' i j (omega arith, omega arith) (omega arith, omega arith)
+  pub agree-near : {D r c : ℕ} (d e r' c' : ℕ) → d + e ≤ D → Near e r r' → Near e c c' → Agree D r c → Agree d r' c'
+  agree-near d e r' c' less (p, q) (p', q') g r'' c'' i j (x, y) (x', y') = g r'' c'' i j (omega arith, omega arith) (omega arith, omega arith)
 
+  module _ (H : ℕ) (tall : top + h ≤ H) where
     solid-seen : (v r c K n : ℕ) → n < positionCount → Side spread top h H r → Agree spread r c → solid w h a v r c K n ≡ solid w H b v (top + r) c K n
     unfolding solid
     solid-seen v r c K n i s g =
         all-ext _ _ (positions K) (λ m p.
         and-cong (inside w h r c n m) (same m (position-elim K p .0))
         ∙ ap (λ x. x && eqb (pixel w b (placed (top + r) (down n) (down m)) (placed c (across n) (across m))) v)
-        (inside-up w r c n m i (position-elim K p .0) s))
+        (inside-up h H top tall w r c n m i (position-elim K p .0) s))
       where
         same : (m : ℕ) → m < positionCount → inside w h r c n m ≡ true
             → eqb (pixel w a (placed r (down n) (down m)) (placed c (across n) (across m))) v
@@ -113,7 +114,7 @@ module _ (h H top : ℕ) (tall : top + h ≤ H) where
               let less : spread + radius ≤ reach = omega arith in
               opened-seen v (siteRow h r n) (siteCol w c n) (side-near spread radius (siteRow h r n) less rows s)
               (agree-near spread radius (siteRow h r n) (siteCol w c n) less rows columns g)
-              ∙ ap (λ z. opened t w H b v z (siteCol w c n)) (sym (clamp-up r (down n) (omega arith) l s))
+              ∙ ap (λ z. opened t w H b v z (siteCol w c n)) (sym (clamp-up h H top tall r (down n) (omega arith) l s))
 
       pub passAt-seen : (r c : ℕ) → r < h → c < w → Side reach top h H r → Agree reach r c → passAt t w h a r c ≡ passAt t w H b (top + r) c
       unfolding passAt
