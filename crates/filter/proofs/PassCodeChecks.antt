@@ -10,7 +10,6 @@ use Prim.Native.Nat.{ℕ, _*_, _≤_}
 use borrow.Author.Tests.{leb-true, le-leb}
 use lib.Dec.{leb}
 use lib.ListN.{length, take}
-use lib.Seq.{take-at}
 use Rattle.seq.specs.Lists.{all}
 use Rattle.seq.proofs.Lists.{and-left, and-right, and-intro, all-intro}
 use Rattle.seq.proofs.Tab.{length-tab}
@@ -19,6 +18,7 @@ use Rattle.table.specs.Mask.{validMask}
 use Rattle.table.specs.Record.{maxElements, maxRanks, masks, recordVerdict}
 use Rattle.verdict.specs.declared.Verdict.the-variants.{Accepted}
 use Rattle.verdict.specs.Writer.{over}
+use Rattle.verdict.proofs.Writer.{take-over}
 use Rattle.filter.specs.Applied.{ranged}
 use Rattle.filter.specs.Code.OpeningMap.{openMap}
 use Rattle.table.proofs.Facts.{accepted-table}
@@ -55,11 +55,10 @@ pub elements-part : (t : Table) {es : List ℕ} → es ≡ t .elements → take 
 unfolding masks
 elements-part t e = ap (take (t .count)) e
 
--- the part of an area that the opening map takes
-pub map-part : (t : Table) (w h : ℕ) (img d : List ℕ) {l : List ℕ} → l ≡ over (openMap t w h img) d → take (w * h) l ≡ openMap t w h img
-unfolding over openMap
-map-part t w h img d e = ap (take (w * h)) e ∙ take-at _ _ (w * h) (length-tab _ (w * h))
-
+-- the opening map, and the part of an area that it takes
 pub map-length : (t : Table) (w h : ℕ) (img : List ℕ) → length (openMap t w h img) ≡ w * h
 unfolding openMap
 map-length t w h img = length-tab _ (w * h)
+
+pub map-part : (t : Table) (w h : ℕ) (img d : List ℕ) {l : List ℕ} → l ≡ over (openMap t w h img) d → take (w * h) l ≡ openMap t w h img
+map-part t w h img d e = ap (take (w * h)) e ∙ take-over (openMap t w h img) d (w * h) (map-length t w h img)

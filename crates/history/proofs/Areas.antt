@@ -1,33 +1,20 @@
--- The work areas: an image that is put at an area's front, and which of the two areas holds the present one.
---     take-over, length-over     the image is read back, and the area keeps its length
+-- The work areas: which of the two holds the present image.
 --     even-next                  one more pass changes the parity
 --     next-job, next-first, next-second     the record that is given, and areas of their old lengths
 --     next-changed, next-stable  the new image is the present one, or the old one still is
 -- Assumes nothing.
 use mathlib.Core.Bool.{true, false, not}
-use mathlib.Core.List.{List}
 use mathlib.Core.Logic.{⊎-elim}
 use mathlib.Core.Path.{_≡_, sym, ap, _∙_}
 use Prim.Native.Nat.{ℕ, _+_, _%_, _≤_}
 use native.Mathlib.Omega.{arith}
 use borrow.Author.Tests.{eqb-true, eqb-false, eq-eqb, ne-eqb}
-use lib.ListN.{length, take, drop, length-append, length-drop}
-use lib.Seq.{take-at}
+use lib.ListN.{length}
 use Rattle.history.specs.declared.Job.{Job}
 use Rattle.history.specs.State.{State, pixels, even, present, image}
 use Rattle.history.specs.Pass.{nextImage, withNext, changedJob, stableJob}
 use Rattle.seq.proofs.Lists.{either}
-use Rattle.verdict.specs.Writer.{over}
-
--- what was put at the front is read back
-pub take-over : (px area : List ℕ) (n : ℕ) → length px ≡ n → take n (over px area) ≡ px
-unfolding over
-take-over px area n e = take-at px (drop (length px) area) n e
-
--- an area that is long enough keeps its length
-pub length-over : (px area : List ℕ) → length px ≤ length area → length (over px area) ≡ length area
-unfolding over
-length-over px area l = simp (length-append, length-drop) (omega arith)
+use Rattle.verdict.proofs.Writer.{take-over, length-over}
 
 -- one more pass changes the parity
 pub even-next : (n : ℕ) → even (n + 1) ≡ not (even n)

@@ -1,18 +1,17 @@
 -- What a call leaves of the areas: their lengths, and every byte past the image (01, The job).
---     drop-over            bytes past what is put at an area's front stay
 --     Stays n s u          from s to u the areas keep their lengths, and their bytes from n on
 --     load-stays, pass-stays, run-stays     load, pass and run
 --     kept                 the claim, for every call
 -- Assumes nothing.
 use mathlib.Core.Bool.{true, _||_}
-use mathlib.Core.List.{List}
-use mathlib.Core.Path.{_≡_, refl, ap, ap₂, _∙_}
+use mathlib.Core.List.{List·Memᴰ·head, List·Memᴰ·tail}
+use mathlib.Core.Logic.{⊎-elim}
+use mathlib.Core.Path.{_≡_, refl, ap₂, _∙_}
 use Prim.Native.Nat.{ℕ, zero, suc, _*_, _≤_}
 use native.Mathlib.Omega.{arith}
 use borrow.Author.Tests.{ltb-false}
 use lib.Dec.{ltb}
 use lib.ListN.{length, drop}
-use lib.Seq.{drop-at}
 use Rattle.history.specs.declared.Job.{Job}
 use Rattle.history.specs.Call.{Call, load, pass, run, view, figures, collect, isLoad, stateOf}
 use Rattle.history.specs.Collect.{collectVerdict, collectAs, collectState}
@@ -24,7 +23,6 @@ use Rattle.history.specs.Run.{runOf}
 use Rattle.history.specs.Sound.{Ready}
 use Rattle.history.specs.Source.{Source, sourceWidth, sourceHeight, sourcePixels}
 use Rattle.history.specs.State.{State, pixels, even}
-use Rattle.history.proofs.Areas.{length-over}
 use Rattle.history.proofs.Passes as passes
 use Rattle.history.proofs.Passes.{Way, way, changed}
 use Rattle.history.proofs.Ready.{ready-next}
@@ -37,12 +35,7 @@ use Rattle.verdict.specs.declared.Verdict.{Verdict}
 use Rattle.verdict.specs.declared.Verdict.the-variants.{Accepted, Refused}
 use Rattle.verdict.specs.Writer.{over}
 use Rattle.verdict.proofs.Rules.{judge-accepted, refuseIf-accepted}
-use mathlib.Core.List.{List·Memᴰ·head, List·Memᴰ·tail}
-use mathlib.Core.Logic.{⊎-elim}
-
-drop-over : (px area : List ℕ) (n : ℕ) → length px ≡ n → drop n (over px area) ≡ drop n area
-unfolding over
-drop-over px area n e = drop-at px (drop (length px) area) n e ∙ ap (λ (m : ℕ). drop m area) e
+use Rattle.verdict.proofs.Writer.{drop-over, length-over}
 
 record Stays (n : ℕ) (s u : State) : Type 0 where
   first-long : length (u .first) ≡ length (s .first)

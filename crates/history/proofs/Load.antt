@@ -18,7 +18,6 @@ use Rattle.history.specs.Lists.{lengthsOf, tallied, tallyAs}
 use Rattle.history.specs.Load.{areasRule, loadVerdict, loadedJob, loadAs, loadState}
 use Rattle.history.specs.Source.{Source, sourceVerdict, sourceWidth, sourceHeight, sourcePixels}
 use Rattle.history.specs.State.{State, emptyJob, present, image}
-use Rattle.history.proofs.Areas.{take-over, length-over}
 use Rattle.history.proofs.Related.{Held, RelatedTo}
 use Rattle.history.proofs.Row.{alone}
 use Rattle.history.proofs.Sources.{source-sized, source-image}
@@ -31,6 +30,7 @@ use Rattle.verdict.specs.declared.Verdict.{Verdict}
 use Rattle.verdict.specs.declared.Verdict.the-variants.{Accepted, Refused}
 use Rattle.verdict.specs.Rules.{refusal, judge}
 use Rattle.verdict.proofs.Rules.{orElse-left, orElse-right, refuseIf-accepted}
+use Rattle.verdict.proofs.Writer.{take-over, length-over}
 
 pub load-empty : (t : Table) (x : Source) (s : State) → s .job ≡ emptyJob → loadVerdict t x s ≡ refusedBy (load t x) (lengthsOf s) empty
 unfolding loadVerdict refusedBy lengthsOf emptyJob

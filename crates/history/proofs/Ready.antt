@@ -20,8 +20,7 @@ use Rattle.operator.proofs.Operator.{pass-image}
 use Rattle.history.specs.Pass.{nextImage, exceeds, withNext, changedJob, stableJob}
 use Rattle.history.specs.State.{State, pixels, even, present, image, inconsistent, unsound, soundRule, loadedRule, readyVerdict}
 use Rattle.history.proofs.Areas.{next-job, next-first, next-second, next-changed, next-stable}
-use Rattle.history.proofs.Images.{none-above}
-use Rattle.image.proofs.PixelsOf.{good-pixels, binary-at}
+use Rattle.history.proofs.Images.{none-above, image-writable}
 use Rattle.image.proofs.RowBytes.{sides}
 use Rattle.image.specs.File.{pixelVerdict}
 use Rattle.image.specs.Size.{badSize}
@@ -110,13 +109,7 @@ module _ {s : State} (r : Ready s) where
 
   -- the image writer accepts it
   pub ready-writable : pixelVerdict (s .job .width) (s .job .height) (image s) ≡ Accepted
-  ready-writable =
-      good-pixels (s .job .width) (s .job .height) (image s)
-      (record {
-        size = r .sized;
-        count = ready-image .sized;
-        small = λ i l. binary-at (image s) i (ready-image .binary);
-      })
+  ready-writable = image-writable (r .sized) ready-image
 
   -- it has a pixel
   pub ready-some : 0 < pixels (s .job)

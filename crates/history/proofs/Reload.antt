@@ -22,7 +22,6 @@ use Rattle.history.specs.Lists.{Course, lengthsOf, tallied, step, play, 
 use Rattle.history.specs.Source.{fromFile}
 use Rattle.history.specs.State.{State, emptyJob}
 use Rattle.history.proofs.After.{held}
-use Rattle.history.proofs.Areas.{take-over}
 use Rattle.history.proofs.Collect.{collect-held}
 use Rattle.history.proofs.Kept.{kept}
 use Rattle.history.proofs.Lists.{keeps, play-related}
@@ -41,6 +40,7 @@ use Rattle.verdict.specs.declared.Written.the-variants as written
 use Rattle.verdict.specs.Rules.{isAccepted}
 use Rattle.verdict.specs.Writer.{over, writtenOf, outputOf}
 use Rattle.verdict.proofs.Rules.{orElse-left, refuseIf-accepted}
+use Rattle.verdict.proofs.Writer.{take-over}
 
 record Same (e d : Entry) : Type 0 where
   table : d .table ≡ e .table

@@ -1,5 +1,6 @@
 -- What an accepted file is, and what a refused one is refused by.
 --     FileGood, file-good, good-file     each rule of an accepted file, and an accepted file from its rules
+--     image-binary                       every pixel of a file is 0 or 1
 --     AcceptedFile, accepted-file        the image that it holds, as other crates use it
 --     file-says, file-numbers            what a file is refused by, and by which numbers
 -- Assumes nothing.
@@ -54,16 +55,22 @@ pub record AcceptedFile (f : List ℕ) : Type 0 where
   pub counted : length (imageOf f) ≡ widthOf f * heightOf f
   pub binary : all (λ v. leb v 1) (imageOf f) ≡ true
 
-pub accepted-file : (f : List ℕ) → fileVerdict f ≡ Accepted → AcceptedFile f
+-- whether it is accepted or not
+pub image-binary : (f : List ℕ) → all (λ v. leb v 1) (imageOf f) ≡ true
 unfolding imageOf pixelsOf rasterPixel
+image-binary f =
+    let pixel = grid (widthOf f) (rasterPixel (widthOf f) (raster f)) in
+    all-tab (λ v. leb v 1) pixel (widthOf f * heightOf f) (λ i l. le-leb (pixel i) 1 (omega arith))
+
+pub accepted-file : (f : List ℕ) → fileVerdict f ≡ Accepted → AcceptedFile f
+unfolding imageOf pixelsOf
 accepted-file f e =
     let good = file-good f e .size in
-    let pixel = grid (widthOf f) (rasterPixel (widthOf f) (raster f)) in
     record {
       sized = good;
       within = sides (widthOf f) (heightOf f) good;
-      counted = length-tab pixel (widthOf f * heightOf f);
-      binary = all-tab (λ v. leb v 1) pixel (widthOf f * heightOf f) (λ i l. le-leb (pixel i) 1 (omega arith));
+      counted = length-tab _ (widthOf f * heightOf f);
+      binary = image-binary f;
     }
 
 pub file-says : {P : Refusal → Type 0} (f : List ℕ) → P (refusal 9 0) → P (refusal 10 0) → P (refusal 11 0) → Says P (fileVerdict f)

@@ -1,18 +1,19 @@
 -- What the reader answers and leaves in the area, from the layout of the file.
---     image-told                        an image's layout is that of an accepted file
---     read-refused, read-short, read-filled     the file is refused; the area is too short; the area is filled
+--     read-refused      the file is refused
+--     read-sides, read-start, read-length     an image's size is within the limits, and its raster is the end of the file, of the length due
+--     read-image        answer and area by rule 13
 -- Assumes nothing.
 use mathlib.Core.List.{List}
 use mathlib.Core.Path.{_≡_, refl, _∙_}
-use Prim.Native.Nat.{ℕ, _-_, _*_, _≤_, _<_}
+use Prim.Native.Nat.{ℕ, _-_, _*_, _≤_}
 use native.Mathlib.Omega.{arith}
-use borrow.Author.Tests.{lt-ltb, le-ltb}
 use lib.ListN.{length, take, drop}
+use Rattle.image.specs.declared.ImageRead.{ImageRead}
 use Rattle.image.specs.declared.ImageRead.the-variants as read
 use Rattle.image.specs.declared.layout.Layout.the-variants as layout
 use Rattle.image.specs.Code.Layout.{rasterStart, layoutIf, layoutOf}
 use Rattle.image.specs.Code.Rows.{Sides}
-use Rattle.image.specs.File.{pixelsOf, fileVerdict, imageVerdict, imageRead, imageArea}
+use Rattle.image.specs.File.{pixelsOf, fileVerdict, areaRule, readAs, imageVerdict, imageRead, imageArea}
 use Rattle.image.specs.Header.{widthOf, heightOf}
 use Rattle.image.specs.Size.{rowBytes}
 use Rattle.image.proofs.Facts.{file-good}
@@ -22,8 +23,7 @@ use Rattle.image.proofs.RowBytes.{sides}
 use Rattle.verdict.specs.declared.Refusal.{Refusal}
 use Rattle.verdict.specs.declared.Verdict.{Verdict}
 use Rattle.verdict.specs.declared.Verdict.the-variants.{Accepted, Refused}
-use Rattle.verdict.specs.Rules.{refusal}
-use Rattle.verdict.specs.Writer.{over}
+use Rattle.verdict.specs.Writer.{outputOf}
 
 -- an accepted file with its size, and the raster as a part of the file
 record Told (f : List ℕ) (w h start : ℕ) : Type 0 where
@@ -66,12 +66,9 @@ module _ (f : List ℕ) {w h start : ℕ} (image : layoutOf f ≡ layout.Image w
   pub read-length : length (take (length f - start) (drop start f)) ≡ rowBytes w * h
   read-length = rw (raster-part f start (t .place), t .width, t .height) at (file-good f (t .verdict) .count)
 
-  pub read-short : (area : List ℕ) → length area < w * h → (read.Refused (refusal 13 0) ≡ imageRead f (length area)) × (area ≡ imageArea f area)
+  pub read-image : (area : List ℕ) {a : ImageRead} {after : List ℕ} → a ≡ readAs (areaRule w h (length area)) w h
+      → after ≡ outputOf (areaRule w h (length area)) (pixelsOf w h (take (length f - start) (drop start f))) area
+      → (a ≡ imageRead f (length area)) × (after ≡ imageArea f area)
   unfolding imageRead imageArea imageVerdict
-  read-short area l = (simp (t .verdict, t .width, t .height, lt-ltb _ _ l), simp (t .verdict, t .width, t .height, lt-ltb _ _ l))
-
-  pub read-filled : (area : List ℕ) {area′ : List ℕ} → w * h ≤ length area → area′ ≡ over (pixelsOf w h (take (length f - start) (drop start f))) area
-      → (read.Size w h ≡ imageRead f (length area)) × (area′ ≡ imageArea f area)
-  unfolding imageRead imageArea imageVerdict
-  read-filled area l e =
-      (simp (t .verdict, t .width, t .height, le-ltb _ _ l), e ∙ simp (t .verdict, t .width, t .height, le-ltb _ _ l, raster-part f start (t .place)))
+  read-image area p q =
+      (p ∙ simp (t .verdict, t .width, t .height), q ∙ simp (t .verdict, t .width, t .height, raster-part f start (t .place)))

@@ -4,23 +4,29 @@
 --     row-byte         the byte at hand lies in the row
 --     ImageDone        where the loop over the rows stands: the rows passed are unpacked, and the next starts at `from` in the raster, at `to` in the area
 --     image-none, image-more, image-all, image-fits    its start, a row, its end, and that the row at hand lies in both
+--     FilledBy         the answer and the area afterwards; fill-short, fill-whole: the area is too short; it is filled
 -- Assumes nothing.
 use mathlib.Core.List.{List}
 use mathlib.Core.Path.{_≡_, ap, _∙_}
 use Prim.Native.Nat.{ℕ, _+_, _-_, _*_, _/_, _%_, _≤_, _<_}
 use native.Mathlib.Nat.{zero-mul, mul-comm, le-trans, le-antisymm}
 use native.Mathlib.Omega.{arith}
+use borrow.Author.Tests.{lt-ltb, le-ltb}
 use lib.ListN.{length, getD}
 use lib.Seq.{sets}
+use Rattle.image.specs.declared.ImageRead.{ImageRead}
+use Rattle.image.specs.declared.ImageRead.the-variants as read
 use Rattle.image.specs.Code.Rows.{bytePixel, rowPixel}
-use Rattle.image.specs.File.{rasterPixel, pixelsOf}
+use Rattle.image.specs.File.{rasterPixel, pixelsOf, areaRule, readAs}
 use Rattle.image.specs.Size.{rowBytes}
 use Rattle.image.proofs.RowBytes.{row-bytes-fit}
 use Rattle.seq.proofs.Grid.{grid, row-below, fill-row}
 use Rattle.seq.proofs.Stores.{Stored, stored-none, stored-run, stored-all}
-use Rattle.seq.proofs.Tab.{length-tab, fill-none}
+use Rattle.seq.proofs.Tab.{fill-none}
 use Rattle.seq.specs.Tab.{tab, Filled}
-use Rattle.verdict.specs.Writer.{over}
+use Rattle.verdict.specs.Writer.{over, outputOf}
+use Rattle.verdict.specs.Rules.{refusal}
+use Rattle.verdict.proofs.Writer.{filled-over}
 
 pub record RowDone (r : List ℕ) (from width : ℕ) (d : List ℕ) (to : ℕ) (area : List ℕ) (at col : ℕ) : Type 0 where
   pub within : col ≤ width
@@ -90,7 +96,19 @@ module _ {r : List ℕ} {w h : ℕ} {d : List ℕ} {bytes : ℕ} {area : List �
       l′ = omega arith
 
   pub image-all : h ≤ row → area ≡ over (pixelsOf w h r) d
-  unfolding over pixelsOf
+  unfolding pixelsOf
   image-all l =
       let n : row * w ≡ w * h = omega (arith, ap (λ (k : ℕ). k * w) (le-antisymm (s .within) l), mul-comm w h) in
-      s .rows .filled ∙ rw (n, length-tab)
+      filled-over (s .rows) ∙ rw n
+
+-- by rule 13
+abbrev FilledBy : ℕ → ℕ → List ℕ → List ℕ → ImageRead → List ℕ → Type 0
+FilledBy w h r area a after =
+    (a ≡ readAs (areaRule w h (length area)) w h) × (after ≡ outputOf (areaRule w h (length area)) (pixelsOf w h r) area)
+
+module _ (w h : ℕ) (r area : List ℕ) where
+  pub fill-short : length area < w * h → FilledBy w h r area (read.Refused (refusal 13 0)) area
+  fill-short l = (simp (lt-ltb _ _ l), simp (lt-ltb _ _ l))
+
+  pub fill-whole : {after : List ℕ} → w * h ≤ length area → after ≡ over (pixelsOf w h r) area → FilledBy w h r area (read.Size w h) after
+  fill-whole l e = (simp (le-ltb _ _ l), e ∙ simp (le-ltb _ _ l))

@@ -17,7 +17,7 @@ pub mod size;
 mod unpack;
 
 // The most bytes of an image file.
-pub const MAX_FILE: usize = header::MAX_LENGTH + size::MAX_PIXELS / size::BYTE_PIXELS;
+pub const MAX_FILE: usize = header::MAX_LENGTH + size::MAX_RASTER;
 
 // The size of the image read, or the refusal.
 pub enum ImageRead {
@@ -36,13 +36,7 @@ pub fn read(file: &[u8], area: &mut [u8]) -> ImageRead
             width,
             height,
             start,
-        } => {
-            if area.len() < width * height {
-                return ImageRead::Refused(verdict::refusal_of(verdict::AREA_SHORT, 0));
-            }
-            unpack::image(&file[start..], width, height, area);
-            ImageRead::Size { width, height }
-        }
+        } => unpack::fill(&file[start..], width, height, area),
         Layout::Refused(refusal) => ImageRead::Refused(refusal),
     }
 }

@@ -9,6 +9,9 @@ pub const MAX_PIXELS: usize = MAX_SIDE * MAX_SIDE;
 
 pub(crate) const BYTE_PIXELS: usize = 8;
 
+// The most bytes of a raster.
+pub(crate) const MAX_RASTER: usize = MAX_PIXELS / BYTE_PIXELS;
+
 pub fn is_bad(width: usize, height: usize) -> bool
     ensures { λ r. ⌜ r ≡ badSize width height ⌝ }
 {

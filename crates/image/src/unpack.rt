@@ -1,4 +1,5 @@
 // Unpacking a raster (01, The sheet): a byte gives up to eight pixels, the leftmost from the highest bit; unused bits give none.
+use crate::ImageRead;
 use crate::size;
 use crate::size::BYTE_PIXELS;
 ghost use mathlib.Core.Path.{_≡_};
@@ -6,15 +7,29 @@ ghost use Prim.Native.Nat.{_+_, _*_, _≤_};
 ghost use lib.ListN.{length};
 ghost use lib.Seq.{sets};
 ghost use Rattle.image.specs.Code.Rows.{Sides, bytePixel, rowPixel};
-ghost use Rattle.image.specs.File.{pixelsOf};
+ghost use Rattle.image.specs.File.{pixelsOf, areaRule, readAs};
 ghost use Rattle.image.specs.Size.{maxSide, rowBytes};
 ghost use Rattle.seq.specs.Tab.{tab};
-ghost use Rattle.verdict.specs.Writer.{over};
+ghost use Rattle.verdict.specs.Writer.{over, outputOf};
 
 const LEFTMOST_BIT: usize = 7;
 
+// The image in the front of an area, or 13.
+pub(crate) fn fill(raster: &[u8], width: usize, height: usize, area: &mut [u8]) -> ImageRead
+    requires { ⌜ Sides width height × (length (now raster) ≡ rowBytes width * height) ⌝ }
+    ensures { λ r. ⌜ (r ≡ readAs (areaRule width height (length (now (area .entry)))) width height)
+        × (now (area .exit)
+        ≡ outputOf (areaRule width height (length (now (area .entry)))) (pixelsOf width height (now (raster .entry))) (now (area .entry))) ⌝ }
+{
+    if area.len() < width * height {
+        return ImageRead::Refused(verdict::refusal_of(verdict::AREA_SHORT, 0));
+    }
+    image(raster, width, height, area);
+    ImageRead::Size { width, height }
+}
+
 // All rows; `from` is the place of a row's first byte, `to` that of its first pixel.
-pub(crate) fn image(raster: &[u8], width: usize, height: usize, area: &mut [u8])
+fn image(raster: &[u8], width: usize, height: usize, area: &mut [u8])
     requires { ⌜ Sides width height × (length (now raster) ≡ rowBytes width * height) × (width * height ≤ length (now area)) ⌝ }
     ensures { λ _. ⌜ now (area .exit) ≡ over (pixelsOf width height (now (raster .entry))) (now (area .entry)) ⌝ }
 {

@@ -1,25 +1,24 @@
 -- The work areas in the code.
---     filled-over                an area that a loop has filled with the bytes of an image
+--     copied-over                an area that a loop has filled with the bytes of an image
 --     pick-even, pick-odd        the one of two lists that the parity names, by the code's test
 --     image-even, image-odd      the present image, by the code's test
 --     part-length                the length of an area's part
 -- Assumes nothing.
 use mathlib.Core.Bool.{cond}
-use mathlib.Core.List.{List, _++_}
+use mathlib.Core.List.{List}
 use mathlib.Core.Path.{_≡_, sym, ap, _∙_}
 use Prim.Native.Nat.{ℕ, _%_, _≤_}
 use borrow.Author.Tests.{eq-eqb, ne-eqb}
-use lib.ListN.{length, getD, take, drop}
+use lib.ListN.{length, getD, take}
 use lib.Seq.{length-take-le}
 use Rattle.history.specs.State.{State, pixels, even, present, image}
 use Rattle.seq.specs.Tab.{Filled}
 use Rattle.seq.proofs.Tab.{tab-getD}
 use Rattle.verdict.specs.Writer.{over}
+use Rattle.verdict.proofs.Writer.{filled-over}
 
-pub filled-over : (from to to₀ : List ℕ) {i : ℕ} → i ≡ length from → Filled (λ k. getD from k 0) to₀ to i → to ≡ over from to₀
-unfolding over
-filled-over from to to₀ {i} e f =
-    rw e at (f .filled) ∙ ap (λ (l : List ℕ). l ++ drop (length from) to₀) (tab-getD from 0)
+pub copied-over : (from to to₀ : List ℕ) {i : ℕ} → i ≡ length from → Filled (λ k. getD from k 0) to₀ to i → to ≡ over from to₀
+copied-over from to to₀ e f = filled-over f ∙ ap (λ (l : List ℕ). over l to₀) (rw e (tab-getD from 0))
 
 module _ (n : ℕ) (x y : List ℕ) where
   pub pick-even : n % 2 ≡ 0 → x ≡ cond (even n) x y

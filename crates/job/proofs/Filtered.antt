@@ -16,12 +16,12 @@ use Rattle.operator.specs.Image.{added, removed}
 use Rattle.history.specs.Pass.{nextImage}
 use Rattle.history.specs.Sound.{Ready}
 use Rattle.history.specs.State.{State, pixels, image}
-use Rattle.history.proofs.Areas.{take-over}
 use Rattle.history.proofs.Ready.{ready-next, ready-writable}
 use Rattle.job.specs.Code.Ready.{Computed}
 use Rattle.verdict.specs.declared.Refusal.{Refusal}
 use Rattle.verdict.specs.declared.Verdict.the-variants as verdict
 use Rattle.verdict.specs.Writer.{over}
+use Rattle.verdict.proofs.Writer.{take-over}
 
 -- what the filter promises of its answer and area
 abbrev Filters : State → List ℕ → List ℕ → List ℕ → Filtered → Type 0

@@ -56,7 +56,7 @@ pub fn load_core(job: Job, table: Table, file: &[u8], first: &mut [u8], second: 
             job,
         };
     }
-    let both = lesser(first.len(), second.len());
+    let both = common(first, second);
     enter(job, table, image::read(file, &mut first[..both]))
 }
 
@@ -111,10 +111,14 @@ fn enter(job: Job, table: Table, read: ImageRead) -> Loaded
     }
 }
 
-fn lesser(a: usize, b: usize) -> usize
-    ensures { λ r. ⌜ r ≡ min a b ⌝ }
+// How many bytes both areas have: an image that fits so many fits both.
+fn common<'a>(first: &'a [u8], second: &'a [u8]) -> usize
+    ensures { λ r. ⌜ r ≡ min (length (now (first .entry))) (length (now (second .entry))) ⌝ }
 {
-    if a < b { a } else { b }
+    if first.len() < second.len() {
+        return first.len();
+    }
+    second.len()
 }
 
 // Pass: 14, 16; then the new image in the other area, unless 14's pass clause holds. At stage 2 nothing is altered.

@@ -1,2 +1,3 @@
 pub mod Rules
 pub mod Numbers
+pub mod Writer

@@ -2,12 +2,10 @@
 use mathlib.Core.List.{List}
 use mathlib.Core.Path.{_≡_, sym, _∙_}
 use Prim.Native.Nat.{ℕ}
-use native.Mathlib.Omega.{arith}
 use borrow.Author.Needs.{needs}
 use Rattle.image.specs.declared.layout.Layout.the-variants.{Image}
 use Rattle.image.specs.Code.Layout.{layoutOf}
-use Rattle.image.proofs.ReadOf.{read-refused, read-sides, read-start, read-length, read-short, read-filled}
-use Rattle.image.proofs.RowBytes.{pixels-few}
+use Rattle.image.proofs.ReadOf.{read-refused, read-sides, read-start, read-length, read-image}
 use Rattle.image.proofs.read.Statement.{statement}
 use Rattle.image.proofs.read.Tie as tie
 
@@ -23,30 +21,19 @@ read-requires c κs = search needs
 enum-known-found : tie.Need-enum-known-found
 enum-known-found c = search needs
 
-mul-if1 : tie.Need-mul-if1
-mul-if1 c = omega (arith, pixels-few (read-sides (bytes (c .before)) (layout-read (c .before))))
+sub-fill : tie.Need-sub-fill
+sub-fill c = read-start (bytes (c .before)) (layout-read (c .before))
 
-refusal-of-requires : tie.Need-refusal-of-requires
-refusal-of-requires c κs = tt
+part-fill-start : tie.Need-part-fill-start
+part-fill-start c = read-start (bytes (c .before)) (layout-read (c .before))
 
-returns : tie.Need-returns
-returns c =
+part-fill-end : tie.Need-part-fill-end
+part-fill-end c = search needs
+
+fill-requires : tie.Need-fill-requires
+fill-requires c κs =
     let d = c .before .before .before in
-    rw (c .refusal-of .ensures) (read-short (bytes d) (layout-read d) _ (c .before .if1 .taken))
-
-sub-image : tie.Need-sub-image
-sub-image c = read-start (bytes (c .before .before)) (layout-read (c .before .before))
-
-part-image-start : tie.Need-part-image-start
-part-image-start c = read-start (bytes (c .before .before)) (layout-read (c .before .before))
-
-part-image-end : tie.Need-part-image-end
-part-image-end c = search needs
-
-image-requires : tie.Need-image-requires
-image-requires c κs =
-    let d = c .before .before .before .before in
-    (read-sides (bytes d) (layout-read d), read-length (bytes d) (layout-read d), c .before .before .if1 .left)
+    (read-sides (bytes d) (layout-read d), read-length (bytes d) (layout-read d))
 
 enum-known-found-2 : tie.Need-enum-known-found-2
 enum-known-found-2 c = search needs
@@ -54,13 +41,13 @@ enum-known-found-2 c = search needs
 same-length : tie.Need-same-length
 same-length c = search needs
 
-returns-2 : tie.Need-returns-2
-returns-2 c =
-    let d = c .before .before .before .before .before .before .before in
-    read-filled (bytes d) (layout-read d) _ (c .before .before .before .before .before .if1 .left) (c .before .before .image .ensures)
+returns : tie.Need-returns
+returns c =
+    let d = c .before .before .before .before .before .before in
+    read-image (bytes d) (layout-read d) _ (c .before .before .fill .ensures .0) (c .before .before .fill .ensures .1)
 
-returns-3 : tie.Need-returns-3
-returns-3 c = read-refused _ (sym (c .before .before .before .read .ensures) ∙ c .before .found2 .given .1) _
+returns-2 : tie.Need-returns-2
+returns-2 c = read-refused _ (sym (c .before .before .before .read .ensures) ∙ c .before .found2 .given .1) _
 
 pub read-spec : {M : Type 1} → statement M
 read-spec =
@@ -68,14 +55,11 @@ read-spec =
     (tie.spec
     read-requires
     enum-known-found
-    mul-if1
-    refusal-of-requires
-    returns
-    sub-image
-    part-image-start
-    part-image-end
-    image-requires
+    sub-fill
+    part-fill-start
+    part-fill-end
+    fill-requires
     enum-known-found-2
     same-length
-    returns-2
-    returns-3)
+    returns
+    returns-2)

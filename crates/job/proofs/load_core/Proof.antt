@@ -1,6 +1,5 @@
 -- `job::load_core`: 14, 15 and the table, then the reader on the part that both areas have. Assumes nothing.
 use mathlib.Core.Path.{sym, _∙_}
-use native.Mathlib.Omega.{arith}
 use borrow.Author.Needs.{needs}
 use Rattle.history.specs.Source.{fromFile}
 use Rattle.job.proofs.Areas.{part-length}
@@ -23,8 +22,8 @@ returns c = not-admitted _ (fromFile _) _ (sym (c .before .before .before .admit
 enum-told : tie.Need-enum-told
 enum-told c = search needs
 
-lesser-requires : tie.Need-lesser-requires
-lesser-requires c κs = tt
+common-requires : tie.Need-common-requires
+common-requires c κs = tt
 
 slice-relend-prefix-read : tie.Need-slice-relend-prefix-read
 slice-relend-prefix-read c = search needs
@@ -44,9 +43,9 @@ same-length-2 c = search needs
 returns-2 : tie.Need-returns-2
 returns-2 c =
     let read = c .before .before .before in
-    let lesser = read .before .before in
-    let told = lesser .before in
-    entered _ (fromFile _) _ (sym (told .before .before .admit .ensures) ∙ told .enum-told .given .1) (lesser .lesser .ensures)
+    let both = read .before .before in
+    let told = both .before .before in
+    entered _ (fromFile _) _ (sym (told .before .before .admit .ensures) ∙ told .enum-told .given .1) (both .common .ensures)
     (read .read .ensures .0) (read .read .ensures .1) (c .enter .ensures)
 
 pub load-core-spec : {M : Type 1} → statement M
@@ -58,7 +57,7 @@ load-core-spec =
     same-length
     returns
     enum-told
-    lesser-requires
+    common-requires
     slice-relend-prefix-read
     slice-aggregate-read
     read-requires

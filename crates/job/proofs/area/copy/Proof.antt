@@ -8,7 +8,7 @@ use borrow.Author.Needs.{needs}
 use lib.ListN.{length, getD}
 use Rattle.seq.specs.Tab.{Filled}
 use Rattle.seq.proofs.Tab.{fill-none, fill-more, fill-length}
-use Rattle.job.proofs.Areas.{filled-over}
+use Rattle.job.proofs.Areas.{copied-over}
 use Rattle.job.proofs.area.copy.Statement.{statement}
 use Rattle.job.proofs.area.copy.Tie as tie
 
@@ -40,7 +40,7 @@ same-length : tie.Need-same-length Inv-loop μ-loop
 same-length c = fill-length (c .before .loop .inv .1)
 
 returns : tie.Need-returns Inv-loop μ-loop
-returns c = filled-over _ _ _ (le-antisymm (c .before .loop .inv .0) (c .loop-test .left)) (c .before .loop .inv .1)
+returns c = copied-over _ _ _ (le-antisymm (c .before .loop .inv .0) (c .loop-test .left)) (c .before .loop .inv .1)
 
 pub copy-spec : {M : Type 1} → statement M
 copy-spec =
