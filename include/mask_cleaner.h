@@ -59,6 +59,7 @@ extern "C" {
 #define MASK_NOTHING_LOADED 16    /* the job holds no image */
 #define MASK_NOT_STABLE 17        /* collect: a pass may still change the image */
 #define MASK_RANK_COUNT 18        /* the number of persistent elements is not 1 to 4 in a record, or not 2 to 4 in a table file that starts with 0; count + 1 */
+#define MASK_SIZES_DIFFER 26      /* three image files: a width or height is not the first file's; the lowest such file, 2 or 3 */
 
 /* The place of a table's parts: 0 the count, and the 0 before it in a file; i the i-th element (from 1). The only persistent
    element of a table is at count + 1. Where there are two to four, their number is at count + 1, and the one of rank r (from
@@ -196,6 +197,13 @@ mask_checked mask_preview(size_t width, size_t height, const uint8_t *pixels, si
    then as mask_table_check and mask_image_read refuse, with 13 where either area is below width x height bytes. */
 mask_checked mask_load(mask_job *job, mask_table table, const uint8_t *file, size_t file_length, uint8_t *first,
                        size_t first_length, const uint8_t *second, size_t second_length);
+
+/* Starts a job as mask_load does, from the majority of three images of one size: a pixel is black where at least two of them
+   have it black. The files may overlap each other. Refused by 14, 15, then as mask_table_check refuses, then by 9, 10, 11
+   for one file after the other (the answer does not say for which), then by 26, and by 13 as mask_load is. */
+mask_checked mask_load_three(mask_job *job, mask_table table, const uint8_t *one, size_t one_length,
+                             const uint8_t *two, size_t two_length, const uint8_t *three, size_t three_length,
+                             uint8_t *first, size_t first_length, const uint8_t *second, size_t second_length);
 
 /* One pass of the filter: the new image goes to the area that does not hold the present one. If pixels changed, passes,
    added and removed rise. If none did, the stage becomes stable and `stable` is 1. At stage stable nothing is written and

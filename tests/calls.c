@@ -30,6 +30,10 @@ static const uint8_t ring_file[] = {0x01, 0xC0, 0xD3, 0x1C, 0x80, 0xE0, 0x18};
 static const uint8_t cobbles_file[] = {0x00, 0x01, 0x80, 0xD1, 0x08, 0x02, 0x80, 0x60, 0x80, 0xA0, 0x08};
 static const uint8_t dot_file[] = {'P', '4', '\n', '5', ' ', '5', '\n', 0x00, 0x00, 0x20, 0x00, 0x00};
 static const uint8_t blank_file[] = {'P', '4', '\n', '5', ' ', '5', '\n', 0x00, 0x00, 0x00, 0x00, 0x00};
+static const uint8_t low_file[] = {'P', '4', '\n', '5', ' ', '4', '\n', 0x00, 0x00, 0x20, 0x00};
+static const uint8_t narrow_file[] = {'P', '4', '\n', '4', ' ', '5', '\n', 0x00, 0x00, 0x20, 0x00, 0x00};
+static const uint8_t wide_file[] = {'P', '4', '\n', '3', '0', '0', ' ', '1', '\n'};
+static const uint8_t bad_file[] = {'x'};
 
 static mask_table ring(void) {
     mask_table t = {0};
@@ -178,6 +182,26 @@ static void table_files(void) {
     EXPECT(all(out + sizeof cobbles_file, sizeof out - sizeof cobbles_file, FILL));
 }
 
+/* Three image files, each with its length. */
+typedef struct {
+    const uint8_t *one;
+    size_t one_length;
+    const uint8_t *two;
+    size_t two_length;
+    const uint8_t *three;
+    size_t three_length;
+} three_files;
+
+static const three_files dots = {dot_file, 12, dot_file, 12, dot_file, 12}; /* the same memory three times */
+static const three_files two_dots = {dot_file, 12, blank_file, 12, dot_file, 12};
+static const three_files bad_files = {dot_file, 12, low_file, 11, bad_file, 1};
+
+static mask_checked load_three(mask_job *j, mask_table t, three_files f, uint8_t *first, size_t first_length,
+                               const uint8_t *second, size_t second_length) {
+    return mask_load_three(j, t, f.one, f.one_length, f.two, f.two_length, f.three, f.three_length, first, first_length,
+                           second, second_length);
+}
+
 /* Tables that are refused by 5 or 7, as files and records. */
 typedef struct {
     uint8_t file[16];
@@ -189,7 +213,7 @@ typedef struct {
 
 #define REFUSED_AS(answer, t) WITNESSED(answer, (t)->number, (t)->place, (t)->witness, (t)->position)
 
-/* Check, read, write and load give witness and position. */
+/* Check, read, write and both loads give witness and position. */
 static void witnessed_calls(const refused_table *t) {
     uint8_t out[16];
     uint8_t first[32];
@@ -206,6 +230,8 @@ static void witnessed_calls(const refused_table *t) {
     mask_file_length w = mask_table_write(t->table, out, sizeof out);
     EXPECT(REFUSED_AS(w, t) && w.length == 0 && all(out, sizeof out, FILL));
     mask_checked l = mask_load(&j, t->table, dot_file, sizeof dot_file, first, 32, second, 32);
+    EXPECT(REFUSED_AS(l, t) && same_job(j, empty) && all(first, 32, FILL) && all(second, 32, FILL));
+    l = load_three(&j, t->table, bad_files, first, 32, second, 32);
     EXPECT(REFUSED_AS(l, t) && same_job(j, empty) && all(first, 32, FILL) && all(second, 32, FILL));
 }
 
@@ -224,6 +250,7 @@ static void unsound_table(const refused_table *t) {
     EXPECT(REFUSED(mask_run(&j, first, 16, second, 16), MASK_UNSOUND, 0));
     EXPECT(REFUSED(mask_collect(&j, first, 16, second, 16, out, 16), MASK_UNSOUND, 0));
     EXPECT(REFUSED(mask_load(&j, ring(), dot_file, sizeof dot_file, first, 16, second, 16), MASK_UNSOUND, 0));
+    EXPECT(REFUSED(load_three(&j, ring(), bad_files, first, 16, second, 16), MASK_UNSOUND, 0));
     EXPECT(same_job(j, before));
 }
 
@@ -341,6 +368,7 @@ static void fields(void) {
         EXPECT(REFUSED(mask_figures(j, first, 32, second, 32), MASK_UNSOUND, 0));
         EXPECT(REFUSED(mask_pass(&j, first, 32, second, 32), MASK_UNSOUND, 0) && same_job(j, before));
         EXPECT(REFUSED(mask_load(&j, ring(), dot_file, sizeof dot_file, first, 32, second, 32), MASK_UNSOUND, 0));
+        EXPECT(REFUSED(load_three(&j, ring(), bad_files, first, 32, second, 32), MASK_UNSOUND, 0));
         EXPECT(same_job(j, before));
     }
 }
@@ -367,11 +395,14 @@ static void empty(void) {
     mask_table bad = ring();
     bad.elements[5] = 1;
     EXPECT(REFUSED(mask_load(&j, bad, dot_file, sizeof dot_file, first, 32, second, 32), MASK_ELEMENT_RANGE, 6));
+    EXPECT(REFUSED(load_three(&j, bad, bad_files, first, 32, second, 32), MASK_ELEMENT_RANGE, 6));
     bad = cross(3);
     bad.persistents[3] = 1;
     EXPECT(REFUSED(mask_load(&j, bad, dot_file, sizeof dot_file, first, 32, second, 32), MASK_PERSISTENT_RANGE, 6));
+    EXPECT(REFUSED(load_three(&j, bad, bad_files, first, 32, second, 32), MASK_PERSISTENT_RANGE, 6));
     bad.ranks = 5;
     EXPECT(REFUSED(mask_load(&j, bad, dot_file, sizeof dot_file, first, 32, second, 32), MASK_RANK_COUNT, 2));
+    EXPECT(REFUSED(load_three(&j, bad, bad_files, first, 32, second, 32), MASK_RANK_COUNT, 2));
     EXPECT(REFUSED(mask_load(&j, ring(), dot_file, 11, first, 32, second, 32), MASK_RASTER_LENGTH, 0));
     EXPECT(REFUSED(mask_load(&j, ring(), dot_file, 12, first, 24, second, 32), MASK_AREA_SHORT, 0));
     EXPECT(REFUSED(mask_load(&j, ring(), dot_file, 12, first, 32, second, 24), MASK_AREA_SHORT, 0));
@@ -440,8 +471,8 @@ static void covers(void) {
     }
 }
 
-/* The ring on 5 x 5 with one black pixel: one pass removes it. */
-static void whole_job(int by_run) {
+/* The ring on 5 x 5 with one black pixel: one pass removes it. Loaded from the files, or where there are none from one. */
+static void whole_job(const three_files *files, int by_run) {
     uint8_t first[32];
     uint8_t second[32];
     uint8_t out[16];
@@ -450,7 +481,8 @@ static void whole_job(int by_run) {
     memset(first, FILL, sizeof first);
     memset(second, FILL, sizeof second);
     memset(out, FILL, sizeof out);
-    mask_checked l = mask_load(&j, ring(), dot_file, sizeof dot_file, first, 30, second, 31);
+    mask_checked l = files ? load_three(&j, ring(), *files, first, 30, second, 31)
+                           : mask_load(&j, ring(), dot_file, sizeof dot_file, first, 30, second, 31);
     EXPECT(ACCEPTED(l));
     EXPECT(j.stage == 1 && j.width == 5 && j.height == 5 && j.passes == 0 && j.added == 0 && j.removed == 0);
     EXPECT(same_table(j.table, ring()) && all(second, 32, FILL) && all(first + 25, 7, FILL));
@@ -458,6 +490,7 @@ static void whole_job(int by_run) {
     mask_part v = mask_view(j, first, 30, second, 31);
     EXPECT(ACCEPTED(v) && v.area == 1 && v.length == 25);
     EXPECT(REFUSED(mask_load(&j, ring(), dot_file, sizeof dot_file, first, 30, second, 31), MASK_NOT_COLLECTED, 0));
+    EXPECT(REFUSED(load_three(&j, ring(), bad_files, first, 30, second, 31), MASK_NOT_COLLECTED, 0));
     mask_file_length c = mask_collect(&j, first, 30, second, 31, out, 16);
     EXPECT(REFUSED(c, MASK_NOT_STABLE, 0) && c.length == 0 && j.stage == 1);
     if (by_run) {
@@ -485,6 +518,65 @@ static void whole_job(int by_run) {
     c = mask_collect(&j, first, 30, second, 31, out, 16);
     EXPECT(ACCEPTED(c) && c.length == 12 && memcmp(out, blank_file, 12) == 0 && all(out + 12, 4, FILL));
     EXPECT(same_job(j, zero) && all(second, 25, 0) && all(second + 25, 7, FILL));
+}
+
+/* The first file that is bad speaks, then the first whose size differs, then a short area. Nothing is written. */
+static void three_refused(void) {
+    static const struct {
+        three_files files;
+        size_t first_length, second_length;
+        uint32_t number;
+        size_t place;
+    } cases[] = {
+        {{bad_file, 1, wide_file, 9, dot_file, 11}, 32, 32, MASK_HEADER_FORM, 0},
+        {{bad_file, 1, dot_file, 11, wide_file, 9}, 32, 32, MASK_HEADER_FORM, 0},
+        {{wide_file, 9, bad_file, 1, dot_file, 11}, 32, 32, MASK_SIZE_RANGE, 0},
+        {{wide_file, 9, dot_file, 11, bad_file, 1}, 32, 32, MASK_SIZE_RANGE, 0},
+        {{dot_file, 11, bad_file, 1, wide_file, 9}, 32, 32, MASK_RASTER_LENGTH, 0},
+        {{dot_file, 11, wide_file, 9, bad_file, 1}, 32, 32, MASK_RASTER_LENGTH, 0},
+        {{dot_file, 12, wide_file, 9, bad_file, 1}, 32, 32, MASK_SIZE_RANGE, 0},
+        {{dot_file, 12, low_file, 11, bad_file, 1}, 32, 32, MASK_HEADER_FORM, 0},
+        {{dot_file, 12, low_file, 11, blank_file, 12}, 32, 32, MASK_SIZES_DIFFER, 2},
+        {{dot_file, 12, blank_file, 12, low_file, 11}, 32, 32, MASK_SIZES_DIFFER, 3},
+        {{dot_file, 12, low_file, 11, low_file, 11}, 32, 32, MASK_SIZES_DIFFER, 2},
+        {{low_file, 11, dot_file, 12, dot_file, 12}, 32, 32, MASK_SIZES_DIFFER, 2},
+        {{low_file, 11, narrow_file, 12, low_file, 11}, 32, 32, MASK_SIZES_DIFFER, 2},
+        {{dot_file, 12, dot_file, 12, narrow_file, 12}, 32, 32, MASK_SIZES_DIFFER, 3},
+        {{low_file, 11, low_file, 11, dot_file, 12}, 32, 32, MASK_SIZES_DIFFER, 3},
+        {{dot_file, 12, low_file, 11, dot_file, 12}, 1, 1, MASK_SIZES_DIFFER, 2},
+        {{dot_file, 12, dot_file, 12, dot_file, 12}, 24, 32, MASK_AREA_SHORT, 0},
+        {{dot_file, 12, dot_file, 12, dot_file, 12}, 32, 24, MASK_AREA_SHORT, 0},
+    };
+    uint8_t first[32];
+    uint8_t second[32];
+    mask_job j = {0};
+    mask_job zero = {0};
+    memset(first, FILL, sizeof first);
+    memset(second, FILL, sizeof second);
+    for (size_t i = 0; i < sizeof cases / sizeof *cases; i++) {
+        mask_checked l = load_three(&j, ring(), cases[i].files, first, cases[i].first_length, second, cases[i].second_length);
+        EXPECT(REFUSED(l, cases[i].number, cases[i].place));
+        EXPECT(same_job(j, zero) && all(first, 32, FILL) && all(second, 32, FILL));
+    }
+}
+
+/* Each of the eight columns of row 0 is black in another set of the three files; row 1 has the colours exchanged. */
+static void three_accepted(void) {
+    static const uint8_t one[] = {'P', '4', '\n', '8', ' ', '2', '\n', 0x0F, 0xF0};
+    static const uint8_t two[] = {'P', '4', '\n', '8', ' ', '2', '\n', 0x33, 0xCC};
+    static const uint8_t three[] = {'P', '4', '\n', '8', ' ', '2', '\n', 0x55, 0xAA};
+    static const uint8_t pixels[16] = {0, 0, 0, 1, 0, 1, 1, 1, 1, 1, 1, 0, 1, 0, 0, 0};
+    const three_files files = {one, sizeof one, two, sizeof two, three, sizeof three};
+    uint8_t first[32];
+    uint8_t second[32];
+    mask_job j = {0};
+    memset(first, FILL, sizeof first);
+    memset(second, FILL, sizeof second);
+    mask_checked l = load_three(&j, cross(2), files, first, 17, second, 16);
+    EXPECT(ACCEPTED(l));
+    EXPECT(j.stage == 1 && j.width == 8 && j.height == 2 && j.passes == 0 && j.added == 0 && j.removed == 0);
+    EXPECT(same_table(j.table, cross(2)) && memcmp(first, pixels, 16) == 0);
+    EXPECT(all(first + 16, 16, FILL) && all(second, 32, FILL));
 }
 
 /* A record by hand whose next pass would take its counts above the pixels: refused, and nothing is written. */
@@ -517,8 +609,13 @@ int main(void) {
     empty();
     by_value();
     covers();
-    whole_job(0);
-    whole_job(1);
+    three_refused();
+    three_accepted();
+    for (int by_run = 0; by_run < 2; by_run++) {
+        whole_job(NULL, by_run);
+        whole_job(&dots, by_run);
+        whole_job(&two_dots, by_run);
+    }
     pass_clause();
     return failures != 0;
 }

@@ -103,6 +103,20 @@ extern "C" {
         second: *const u8,
         second_length: usize,
     ) -> Verdict;
+    pub fn mask_load_three(
+        job: *mut JobRecord,
+        table: TableRecord,
+        one: *const u8,
+        one_length: usize,
+        two: *const u8,
+        two_length: usize,
+        three: *const u8,
+        three_length: usize,
+        first: *mut u8,
+        first_length: usize,
+        second: *const u8,
+        second_length: usize,
+    ) -> Verdict;
     pub fn mask_pass(
         job: *mut JobRecord,
         first: *mut u8,

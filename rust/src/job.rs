@@ -73,6 +73,16 @@ impl Job {
         library::load(record, &table.0, file, first, second)
     }
 
+    /// Loads the majority of three images of one size: a pixel is black where at least two have it black.
+    pub fn load_three(&mut self, table: &Table, files: [&[u8]; 3]) -> Result<(), Refusal> {
+        let Job {
+            record,
+            first,
+            second,
+        } = self;
+        library::load_three(record, &table.0, files, first, second)
+    }
+
     pub fn pass(&mut self) -> Result<Progress, Refusal> {
         library::pass(&mut self.record, &mut self.first, &mut self.second)
     }

@@ -100,6 +100,34 @@ pub fn load(
     verdict(answer, true)
 }
 
+/// Loads the majority of three files' images.
+pub fn load_three(
+    record: &mut JobRecord,
+    table: &TableRecord,
+    [one, two, three]: [&[u8]; 3],
+    first: &mut [u8],
+    second: &[u8],
+) -> Result<(), Refusal> {
+    // SAFETY: pointers and lengths are those of slices; nobody else uses the record or the first area.
+    let answer = unsafe {
+        ffi::mask_load_three(
+            record,
+            *table,
+            one.as_ptr(),
+            one.len(),
+            two.as_ptr(),
+            two.len(),
+            three.as_ptr(),
+            three.len(),
+            first.as_mut_ptr(),
+            first.len(),
+            second.as_ptr(),
+            second.len(),
+        )
+    };
+    verdict(answer, true)
+}
+
 pub fn pass(
     record: &mut JobRecord,
     first: &mut [u8],

@@ -10,12 +10,21 @@ use crate::reference::table;
 #[allow(clippy::large_enum_variant)]
 #[derive(Clone, Debug)]
 pub enum Call {
-    Load { table: TableRecord, file: Vec<u8> },
+    Load {
+        table: TableRecord,
+        file: Vec<u8>,
+    },
+    LoadThree {
+        table: TableRecord,
+        files: [Vec<u8>; 3],
+    },
     Pass,
     Run,
     View,
     Figures,
-    Collect { out_length: usize },
+    Collect {
+        out_length: usize,
+    },
 }
 
 /// What an accepted call says; for collect, the file it writes.
@@ -47,7 +56,11 @@ impl Book {
     /// Enters a call and gives its answer. A refused call leaves the book alone.
     pub fn enter(&mut self, call: &Call, areas: [usize; 2]) -> Result<Answer, Refusal> {
         match call {
-            Call::Load { table, file } => self.load(table, file, areas),
+            Call::Load { table, file } => self.load(table, image::parse(file), areas),
+            Call::LoadThree { table, files } => {
+                let files = files.each_ref().map(Vec::as_slice);
+                self.load(table, image::parse_three(files), areas)
+            }
             Call::Pass => Ok(Answer::Progress(self.entry_mut()?.pass())),
             Call::Run => Ok(Answer::Progress(self.entry_mut()?.run())),
             Call::View => Ok(Answer::Pixels(self.entry_mut()?.last().pixels.clone())),
@@ -60,17 +73,18 @@ impl Book {
         self.entry.as_mut().ok_or(Refusal::of(Reason::Empty))
     }
 
+    /// Takes in the image, of one file or of three.
     fn load(
         &mut self,
         table: &TableRecord,
-        file: &[u8],
+        image: Result<Image, Refusal>,
         areas: [usize; 2],
     ) -> Result<Answer, Refusal> {
         if self.entry.is_some() {
             return Err(Refusal::of(Reason::NotCollected));
         }
         table::check(table)?;
-        let image = image::parse(file)?;
+        let image = image?;
         if areas.into_iter().any(|length| length < image.pixels.len()) {
             return Err(Refusal::of(Reason::Short));
         }

@@ -113,10 +113,11 @@ pub enum Reason {
     Empty = 16,
     NotStable = 17,
     RankCount = 18,
+    SizesDiffer = 26,
 }
 
 impl Reason {
-    pub const ALL: [Reason; 18] = [
+    pub const ALL: [Reason; 19] = [
         Reason::BytesEnd,
         Reason::Groups,
         Reason::Count,
@@ -135,6 +136,7 @@ impl Reason {
         Reason::Empty,
         Reason::NotStable,
         Reason::RankCount,
+        Reason::SizesDiffer,
     ];
 
     pub fn number(self) -> u32 {
@@ -167,6 +169,7 @@ impl Reason {
             Reason::RankCount => {
                 "the number of persistent elements is not 1 to 4, or not 2 to 4 in the file form of several"
             }
+            Reason::SizesDiffer => "an image does not have the size of the first",
         }
     }
 }

@@ -1,9 +1,9 @@
 //! A second implementation of 01, sentence by sentence, for tests. It shares only plain data with the library.
 //!
 //! - [`table`]: masks as offsets, the check of a record, the file's reader and writer.
-//! - [`image`]: images, the strict PBM reader and writer.
+//! - [`image`]: images, the strict PBM reader and writer, the majority of three.
 //! - [`pass`]: covered, one pass, the plain rule, the preview.
-//! - [`job`]: load, pass, run, view, figures, collect.
+//! - [`job`]: load, load of three files, pass, run, view, figures, collect.
 
 pub mod image;
 pub mod job;

@@ -1,11 +1,12 @@
-//! Images: the library's reader and writer beside the reference's, on accepted and damaged files and pixels.
+//! Images: the library's reader and writer beside the reference's, on accepted and damaged files and pixels; loads of three files (T-12).
 
 mod common;
 
-use common::{assert_reached, cleared, fill_unused, report, Tally};
-use mask_cleaner::cases::{random_image, Random};
+use common::{assert_reached, cleared, fill_unused, reasons, report, State, Tally};
+use mask_cleaner::cases::{random_image, ring, Random};
 use mask_cleaner::library;
-use mask_cleaner::record::{Reason, Refusal};
+use mask_cleaner::model::Call;
+use mask_cleaner::record::{JobRecord, Reason, Refusal, TableRecord, STAGE_LOADED};
 use mask_cleaner::reference::image::{self as reference, Image};
 
 /// Sides around every limit of a byte and of the rules.
@@ -294,7 +295,7 @@ fn damaged_pixels() {
     }
     tally.report("damaged pixels");
     let one_place = [Reason::Size, Reason::Raster, Reason::Short];
-    assert_reached(&tally, &Reason::ALL[9..13], &one_place);
+    assert_reached(&tally, &reasons(10..=13), &one_place);
 }
 
 #[test]
@@ -311,4 +312,79 @@ fn random_bytes() {
         let _ = tally.note(read(&file, &mut area));
     }
     tally.report("random bytes as image files");
+}
+
+/// A load of three files by library and reference; exactly a refusal alters nothing.
+fn load_three(state: &mut State, table: TableRecord, files: &[Vec<u8>; 3]) -> Result<(), Refusal> {
+    let before = state.clone();
+    let files = files.clone();
+    let call = Call::LoadThree { table, files };
+    let answer = state.apply_both(&call, &mut []);
+    assert_eq!(answer.is_err(), *state == before, "{call:?}");
+    answer.map(drop)
+}
+
+/// Header and bytes of the raster: of 5 × 5 pixels; refused by 9, 10 and 11; of another width; of another height.
+const FILES: [(&str, usize); 6] = [
+    ("P4\n5 5\n", 5),
+    ("x", 0),
+    ("P4\n300 1\n", 38),
+    ("P4\n5 5\n", 4),
+    ("P4\n4 5\n", 5),
+    ("P4\n5 4\n", 4),
+];
+
+/// Every choice of three of these, with random rasters.
+fn every_three(random: &mut Random) -> Vec<[Vec<u8>; 3]> {
+    let mut file = |i: usize| {
+        let (header, raster) = FILES[i % 6];
+        [header.as_bytes(), &random.bytes(raster)].concat()
+    };
+    let choices = 0..6 * 6 * 6;
+    choices.map(|n| [n / 36, n / 6, n].map(&mut file)).collect()
+}
+
+/// Whatever the files are: 14, 15 and the table's refusal come before theirs.
+fn assert_refused_before(state: &State, files: &[Vec<u8>; 3]) {
+    let loaded = JobRecord {
+        stage: STAGE_LOADED,
+        width: 1,
+        height: 1,
+        table: ring(),
+        ..JobRecord::EMPTY
+    };
+    let unsound = JobRecord { stage: 3, ..loaded };
+    let apart = TableRecord::new(&[2048, 8192], &[12_288]);
+    for (record, numbers) in [
+        (unsound, [14, 0, 0, 0]),
+        (loaded, [15, 0, 0, 0]),
+        (JobRecord::EMPTY, [5, 2, 1, 0]),
+    ] {
+        let mut state = state.clone();
+        state.record = record;
+        let refusal = load_three(&mut state, apart, files).expect_err("refused");
+        assert_eq!(refusal.numbers(), numbers);
+    }
+}
+
+/// Each of three files good, bad or of another size, with areas that are long enough, one too short and both.
+#[test]
+fn three_files() {
+    let mut random = Random::new(25);
+    let mut tally = Tally::default();
+    for (first, second) in [(25, 31), (24, 25), (29, 24), (1, 1)] {
+        for files in every_three(&mut random) {
+            let mut state = State::empty(vec![1; first], random.bytes(second));
+            assert_refused_before(&state, &files);
+            let _ = tally.note(load_three(&mut state, ring(), &files));
+        }
+    }
+    tally.report("three files, each good, bad or of another size");
+    // of the 216 choices 27 have no bad file; of these three are of one size, and six differ in the third
+    for reason in reasons(9..=11) {
+        assert_eq!(tally.times(reason), 4 * (216 - 27) / 3);
+    }
+    let differ = [2, 3].map(|place| tally.times_at(Reason::SizesDiffer, place));
+    assert_eq!(differ, [4 * 18, 4 * 6]);
+    assert_eq!((tally.accepted, tally.times(Reason::Short)), (7, 5));
 }

@@ -2,7 +2,7 @@
 
 mod common;
 
-use common::{report, State, Stock, Tally};
+use common::{reasons, report, State, Stock, Tally};
 use mask_cleaner::cases::Random;
 use mask_cleaner::model::{Answer, Book, Call, Entry};
 use mask_cleaner::record::{Reason, Refusal, STAGE_STABLE};
@@ -38,8 +38,27 @@ fn assert_single_changes(entry: &Entry) {
     assert!(entry.steps().count() <= entry.pixels());
 }
 
-/// One list; the numbers of calls and of steps that changed the image.
-fn list(random: &mut Random, tally: &mut Tally, longest: usize, most: usize) -> usize {
+/// What lists gave: the answers of all calls, those of loads of three files among them, and the number of loads and changing steps.
+#[derive(Default)]
+struct Given {
+    calls: Tally,
+    threes: Tally,
+    steps: usize,
+}
+
+impl Given {
+    fn report(&self, title: &str) {
+        report(&format!(
+            "{title}, with {} loads and changing steps",
+            self.steps
+        ));
+        self.calls.report("calls in them");
+        self.threes.report("loads of three files among these");
+    }
+}
+
+/// One list.
+fn list(random: &mut Random, given: &mut Given, longest: usize, most: usize) {
     let pixels = longest * longest;
     let stock = Stock::new(random, longest);
     let short = random.percent(20);
@@ -47,7 +66,6 @@ fn list(random: &mut Random, tally: &mut Tally, longest: usize, most: usize) -> 
     let (first, second) = (least + random.below(pixels), least + random.below(pixels));
     let mut state = State::empty(random.bytes(first), random.bytes(second));
     let mut book = Book::default();
-    let mut steps = 0;
     for _ in 0..1 + random.below(most) {
         let call = stock.call(random);
         let out_length = match call {
@@ -58,13 +76,15 @@ fn list(random: &mut Random, tally: &mut Tally, longest: usize, most: usize) -> 
         let before = out.clone();
         let steps_before = book_steps(&book);
         let expected = book.enter(&call, state.areas());
-        let answer = tally.note(state.apply_both(&call, &mut out));
+        let answer = given.calls.note(state.apply_both(&call, &mut out));
         assert_eq!(answer, expected, "{call:?}");
+        if matches!(call, Call::LoadThree { .. }) {
+            let _ = given.threes.note(expected);
+        }
         assert_output(&answer, &before, &out);
         assert_book(&state, &book);
-        steps += book_steps(&book).saturating_sub(steps_before);
+        given.steps += book_steps(&book).saturating_sub(steps_before);
     }
-    steps
 }
 
 fn book_steps(book: &Book) -> usize {
@@ -83,38 +103,41 @@ fn assert_output(answer: &Result<Answer, Refusal>, before: &[u8], out: &[u8]) {
 #[test]
 fn short_lists() {
     let mut random = Random::new(50);
-    let mut tally = Tally::default();
+    let mut given = Given::default();
     let lists = 30_000;
-    let steps: usize = (0..lists)
-        .map(|_| list(&mut random, &mut tally, 8, 40))
-        .sum();
-    report(&format!(
-        "lists of calls: {lists}, with {steps} loads and changing steps"
-    ));
-    tally.report("calls in lists");
+    for _ in 0..lists {
+        list(&mut random, &mut given, 8, 40);
+    }
+    given.report(&format!("lists of calls: {lists}"));
+    let Given { calls, threes, .. } = given;
     assert_eq!(
-        tally.times(Reason::Unsound),
+        calls.times(Reason::Unsound),
         0,
         "no call of a list answers 14"
     );
-    assert_eq!(tally.times(Reason::Pixel), 0, "12 never comes from a file");
-    let images = [Reason::Header, Reason::Size, Reason::Raster, Reason::Short];
-    for reason in [&Reason::ALL[2..7], &images, &Reason::ALL[14..]].concat() {
-        assert!(tally.times(reason) >= 100, "{reason:?}");
+    assert_eq!(calls.times(Reason::Pixel), 0, "12 never comes from a file");
+    let of_images = [reasons(9..=11), reasons(13..=13)].concat();
+    for reason in [reasons(3..=7), of_images.clone(), reasons(15..=18)].concat() {
+        assert!(calls.times(reason) >= 100, "{reason:?}");
+    }
+    assert!(threes.accepted >= 5000);
+    for reason in of_images {
+        assert!(threes.times(reason) >= 100, "{reason:?} of three files");
+    }
+    for place in [2, 3] {
+        assert!(threes.times_at(Reason::SizesDiffer, place) >= 1000);
     }
 }
 
 #[test]
 fn long_lists() {
     let mut random = Random::new(51);
-    let mut tally = Tally::default();
+    let mut given = Given::default();
     let lists = 400;
-    let steps: usize = (0..lists)
-        .map(|_| list(&mut random, &mut tally, 16, 400))
-        .sum();
-    report(&format!(
-        "long lists: {lists}, with {steps} loads and changing steps"
-    ));
-    tally.report("calls in long lists");
-    assert_eq!(tally.times(Reason::Unsound), 0);
+    for _ in 0..lists {
+        list(&mut random, &mut given, 16, 400);
+    }
+    given.report(&format!("long lists: {lists}"));
+    assert_eq!(given.calls.times(Reason::Unsound), 0);
+    assert!(given.threes.accepted >= 100);
 }

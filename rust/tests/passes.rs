@@ -292,7 +292,7 @@ fn nothing_outside_the_areas() {
     const GUARD: usize = 64;
     let mut random = Random::new(45);
     let cases = 300;
-    for _ in 0..cases {
+    for case in 0..cases {
         let (width, height) = (1 + random.below(40), 1 + random.below(40));
         let pixels = width * height;
         let file = file_of(&random_image(width, height, &mut random));
@@ -303,7 +303,12 @@ fn nothing_outside_the_areas() {
         let inner = GUARD..GUARD + pixels;
         let mut record = JobRecord::EMPTY;
         let (one, two) = (&mut first[inner.clone()], &mut second[inner]);
-        library::load(&mut record, &table, &file, one, two).expect("accepted");
+        let loaded = if case % 2 == 0 {
+            library::load(&mut record, &table, &file, one, two)
+        } else {
+            library::load_three(&mut record, &table, [&file; 3], one, two)
+        };
+        loaded.expect("accepted");
         library::run(&mut record, one, two).expect("accepted");
         let output = &mut out[GUARD..GUARD + file.len()];
         library::collect(&mut record, one, two, output).expect("accepted");
@@ -318,16 +323,45 @@ fn nothing_outside_the_areas() {
     report(&format!("bytes around areas and output: {cases} cases"));
 }
 
+/// What a thread with the stack that the header asks for gives.
+fn in_512_kilobytes<T: Send + 'static>(work: fn() -> T) -> T {
+    let thread = std::thread::Builder::new().stack_size(512 * 1024);
+    let thread = thread.spawn(work).expect("a thread");
+    thread.join().expect("an end")
+}
+
 #[test]
 fn runs_in_512_kilobytes_of_stack() {
-    let run = || {
+    let passes = in_512_kilobytes(|| {
         let mut random = Random::new(46);
         let image = Kind::Worn.image(256, 256, &mut random);
         compare_run(&image, &median(), &mut random)
-    };
-    let thread = std::thread::Builder::new()
-        .stack_size(512 * 1024)
-        .spawn(run);
-    let passes = thread.expect("a thread").join().expect("a run");
+    });
     report(&format!("a run in 512 KB of stack: {passes} passes"));
+}
+
+/// A load of three images by library and reference.
+fn load_three(width: usize, height: usize, random: &mut Random) {
+    let load = Call::LoadThree {
+        table: some_table(random),
+        files: [(); 3].map(|()| file_of(&random_image(width, height, random))),
+    };
+    let pixels = width * height;
+    let mut state = State::empty(random.bytes(pixels + 3), random.bytes(pixels));
+    assert_eq!(state.apply_both(&load, &mut []), Ok(Answer::Loaded));
+}
+
+#[test]
+fn loads_three_files_in_512_kilobytes_of_stack() {
+    let loads = in_512_kilobytes(|| {
+        let mut random = Random::new(49);
+        let sides = [1, 7, 8, 9, 63, 64, 65, 255, 256];
+        for width in sides {
+            for height in sides {
+                load_three(width, height, &mut random);
+            }
+        }
+        sides.len() * sides.len()
+    });
+    report(&format!("loads of three files in 512 KB of stack: {loads}"));
 }

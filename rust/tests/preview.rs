@@ -2,7 +2,7 @@
 
 mod common;
 
-use common::{assert_reached, report, Tally};
+use common::{assert_reached, reasons, report, Tally};
 use mask_cleaner::cases::{random_image, Random};
 use mask_cleaner::library;
 use mask_cleaner::record::{Reason, Refusal};
@@ -66,5 +66,5 @@ fn refusals() {
     }
     tally.report("preview, refusals");
     let one_place = [Reason::Size, Reason::Raster, Reason::Short];
-    assert_reached(&tally, &Reason::ALL[9..13], &one_place);
+    assert_reached(&tally, &reasons(10..=13), &one_place);
 }

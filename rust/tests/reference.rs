@@ -1,4 +1,4 @@
-//! The reference by itself: the trials of 01 and 02 (T-01) over it, and the quick pass beside the one by definition.
+//! The reference by itself: the trials of 01 and 02 (T-01, T-12) over it, and the quick pass beside the one by definition.
 
 mod common;
 
@@ -7,7 +7,7 @@ use mask_cleaner::cases::{cobbles, cross, median, random_image, random_table, ri
 use mask_cleaner::cases::{Kind, Random};
 use mask_cleaner::fast::Filter;
 use mask_cleaner::record::{TableRecord, MAX_RANKS, PLACES};
-use mask_cleaner::reference::image::Image;
+use mask_cleaner::reference::image::{majority, Image};
 use mask_cleaner::reference::pass::{changes, one_pass, plain};
 use mask_cleaner::reference::table::check;
 
@@ -58,6 +58,13 @@ fn chessboard() {
     for i in 0..36 {
         assert_eq!(plainly.pixels[i] != board.pixels[i], inner(i), "pixel {i}");
     }
+}
+
+#[test]
+fn every_pattern_of_three_pixels() {
+    let images = [0, 1, 2].map(|i| only(8, 1, |x, _| x >> i & 1 == 1));
+    let expected = Image::new(8, 1, &[0, 0, 0, 1, 0, 1, 1, 1]);
+    assert_eq!(majority(&images), expected);
 }
 
 #[test]

@@ -1,10 +1,10 @@
 //! Tables: the library's check, reader and writer beside the reference's, on accepted and damaged records and files; the witnesses
-//! of 5 and 7, by load too.
+//! of 5 and 7, by both loads too.
 
 mod common;
 
 use common::tables::{bytes, check, load, read, write};
-use common::{assert_reached, report, Tally};
+use common::{assert_reached, reasons, report, Tally};
 use mask_cleaner::cases::{median, named_tables, random_table, Random};
 use mask_cleaner::job::Table;
 use mask_cleaner::record::{Reason, Refusal, TableRecord, MAX_RANKS, PLACES};
@@ -278,8 +278,8 @@ fn files() {
         }
     }
     tally.report("table files");
-    let reasons = [&Reason::ALL[..8], &[Reason::RankCount]].concat();
-    assert_reached(&tally, &reasons, &[Reason::Count]);
+    let of_files = [reasons(1..=8), reasons(18..=18)].concat();
+    assert_reached(&tally, &of_files, &[Reason::Count]);
 }
 
 /// The place after a table's last number in its file.

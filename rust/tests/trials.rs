@@ -1,12 +1,13 @@
-//! 01's trial images and tables, and those of 02 (T-01), over the library; the tables of 02 over the reference too.
+//! 01's trial images and tables, and those of 02 (T-01, T-12), over the library; the tables and the three files of 02 over the reference too.
 
 mod common;
 
-use common::report;
 use common::tables::{check, read};
+use common::{report, State};
 use mask_cleaner::cases::{cobbles, cross, median, ring};
-use mask_cleaner::job::Table;
+use mask_cleaner::job::{Job, Table};
 use mask_cleaner::library;
+use mask_cleaner::model::Call;
 use mask_cleaner::record::{JobRecord, Progress, Reason, Refusal, TableRecord};
 use mask_cleaner::reference::image::{file_of, Image};
 use mask_cleaner::reference::pass::plain;
@@ -215,4 +216,68 @@ fn widths() {
     let refused = Err(Refusal::of(Reason::Size));
     assert_eq!(library::read_image(&wider, &mut area), refused);
     report("widths 256 and 257: 2 cases");
+}
+
+const DOT: &[u8] = b"P4\n5 5\n\x00\x00\x20\x00\x00";
+const BLANK: &[u8] = b"P4\n5 5\n\x00\x00\x00\x00\x00";
+const LOW: &[u8] = b"P4\n5 4\n\x00\x00\x20\x00";
+const TOO_WIDE: &[u8] = b"P4\n300 1\n";
+
+/// Three files, and the lengths of both areas.
+type Three = ([&'static [u8]; 3], usize, usize);
+
+/// 02's cases (T-12) on three files, and some beside them: number and place.
+const THREES: [(Three, u32, usize); 14] = [
+    (([DOT, TOO_WIDE, b"x"], 25, 25), 10, 0),
+    (([DOT, LOW, b"x"], 25, 25), 9, 0),
+    (([DOT, LOW, DOT], 25, 25), 26, 2),
+    (([DOT, DOT, LOW], 25, 25), 26, 3),
+    (([DOT, LOW, LOW], 25, 25), 26, 2),
+    (([DOT, LOW, DOT], 1, 1), 26, 2),
+    (([DOT, DOT, DOT], 24, 25), 13, 0),
+    (([DOT, DOT, DOT], 25, 24), 13, 0),
+    (([DOT, DOT, DOT], 25, 25), 0, 0),
+    // beside them
+    (([b"x", TOO_WIDE, DOT], 25, 25), 9, 0),
+    (([TOO_WIDE, DOT, b"x"], 25, 25), 10, 0),
+    (([LOW, DOT, DOT], 25, 25), 26, 2),
+    (([LOW, LOW, DOT], 20, 20), 26, 3),
+    (([LOW, LOW, LOW], 20, 20), 0, 0),
+];
+
+#[test]
+fn three_files_of_the_request() {
+    for ((files, first, second), number, place) in THREES {
+        let mut state = State::empty(vec![7; first], vec![8; second]);
+        let call = Call::LoadThree {
+            table: ring(),
+            files: files.map(<[u8]>::to_vec),
+        };
+        let answer = state.apply_both(&call, &mut []);
+        assert_eq!(number_and_place(answer), (number, place), "{call:?}");
+    }
+    report(&format!("three files of the request: {}", THREES.len()));
+}
+
+/// 02's case (T-12): the dot is there where at least two files have it, and then the ring removes it.
+#[test]
+fn two_of_three() {
+    let table = Table::from_record(ring()).expect("an accepted table");
+    let mut job = Job::for_pixels(25);
+    let choices = 0..8usize;
+    for with_dot in choices.clone() {
+        let files = [0, 1, 2].map(|i| [BLANK, DOT][with_dot >> i & 1]);
+        let there = usize::from(with_dot.count_ones() >= 2);
+        assert_eq!(job.load_three(&table, files), Ok(()));
+        let expected = only(5, 5, |x, y| there == 1 && (x, y) == (2, 2));
+        assert_eq!(job.view(), Ok(&expected.pixels[..]));
+        assert_eq!(job.run(), Ok(()));
+        let counts = (job.record().passes, job.record().removed);
+        assert_eq!(counts, (there, there));
+        assert_eq!(job.collect(), Ok(BLANK.to_vec()));
+    }
+    report(&format!(
+        "a dot in some of three files: {} cases",
+        choices.len()
+    ));
 }

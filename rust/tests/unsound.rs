@@ -3,7 +3,7 @@
 
 mod common;
 
-use common::{report, State, Stock, Tally};
+use common::{reasons, report, State, Stock, Tally};
 use mask_cleaner::cases::{cobbles, random_image, random_table, ring, Kind, Random};
 use mask_cleaner::model::{Answer, Call};
 use mask_cleaner::record::{
@@ -164,15 +164,20 @@ fn empty_with_field(random: &mut Random) -> JobRecord {
     record
 }
 
-/// Each of the six calls on copies of a state.
+/// Each of the seven calls on copies of a state.
 fn try_all(state: &State, random: &mut Random, tally: &mut Tally) {
     let load = Call::Load {
         table: random_table(random, 3),
         file: file_of(&Kind::Noise.image(3, 3, random)),
     };
+    let load_three = Call::LoadThree {
+        table: random_table(random, 3),
+        files: [(); 3].map(|()| file_of(&Kind::Noise.image(3, 3, random))),
+    };
     let collect = Call::Collect { out_length: 60 };
     let calls = [
         load,
+        load_three,
         Call::Pass,
         Call::Run,
         Call::View,
@@ -369,7 +374,13 @@ fn lists_between_alterations() {
     ));
     tally.report("calls in such lists");
     assert_eq!(tally.times(Reason::Pixel), 0, "12 never comes from a file");
-    for reason in [&Reason::ALL[2..7], &Reason::ALL[8..11], &Reason::ALL[12..]].concat() {
+    let given = [
+        reasons(3..=7),
+        reasons(9..=11),
+        reasons(13..=18),
+        reasons(26..=26),
+    ];
+    for reason in given.concat() {
         assert!(tally.times(reason) >= 100, "{reason:?}");
     }
     assert!(tally.accepted >= tally.cases / 10);

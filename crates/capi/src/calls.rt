@@ -12,7 +12,7 @@ ghost use Rattle.history.specs.Collect.{collectWritten, collectOutput, collectS
 ghost use Rattle.history.specs.Load.{loadVerdict, loadState};
 ghost use Rattle.history.specs.Pass.{passOf};
 ghost use Rattle.history.specs.Run.{runOf};
-ghost use Rattle.history.specs.Source.{fromFile};
+ghost use Rattle.history.specs.Source.{fromFile, fromThree};
 ghost use Rattle.job.specs.Core.{at};
 
 pub struct LoadedBy {
@@ -37,6 +37,29 @@ pub(crate) fn load(job: Job, table: Table, file: &[u8], first: &mut [u8], second
         × (loadState table (fromFile (now (file .entry))) (at job (now (first .entry)) (now (second .entry))) .second ≡ now (second .entry)) ⌝ }
 {
     let loaded = job::load_core(job, table, file, first, second);
+    let answer = loaded.answer;
+    let job = loaded.job;
+    LoadedBy {
+        answer: answers::of_verdict(answer),
+        job,
+    }
+}
+
+pub(crate) fn load_three(
+    job: Job,
+    table: Table,
+    one: &[u8],
+    two: &[u8],
+    three: &[u8],
+    first: &mut [u8],
+    second: &[u8],
+) -> LoadedBy
+    ensures { λ r. ⌜ (r ≡ loadedBy (loadVerdict table (fromThree (now (one .entry)) (now (two .entry)) (now (three .entry))) (at job (now (first .entry)) (now (second .entry))))
+        (loadState table (fromThree (now (one .entry)) (now (two .entry)) (now (three .entry))) (at job (now (first .entry)) (now (second .entry)))))
+        × (now (first .exit) ≡ loadState table (fromThree (now (one .entry)) (now (two .entry)) (now (three .entry))) (at job (now (first .entry)) (now (second .entry))) .first)
+        × (loadState table (fromThree (now (one .entry)) (now (two .entry)) (now (three .entry))) (at job (now (first .entry)) (now (second .entry))) .second ≡ now (second .entry)) ⌝ }
+{
+    let loaded = job::load_three_core(job, table, one, two, three, first, second);
     let answer = loaded.answer;
     let job = loaded.job;
     LoadedBy {

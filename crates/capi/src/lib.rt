@@ -16,7 +16,7 @@ ghost use Rattle.history.specs.Collect.{collectWritten, collectOutput, collectS
 ghost use Rattle.history.specs.Load.{loadVerdict, loadState};
 ghost use Rattle.history.specs.Pass.{passOf};
 ghost use Rattle.history.specs.Run.{runOf};
-ghost use Rattle.history.specs.Source.{fromFile};
+ghost use Rattle.history.specs.Source.{fromFile, fromThree};
 ghost use Rattle.history.specs.State.{even};
 ghost use Rattle.history.specs.View.{figuresOf};
 ghost use Rattle.image.specs.File.{imageRead, imageArea, imageWritten, imageOutput};
@@ -148,6 +148,26 @@ pub extern "C" fn mask_load(
         × (loadState table (fromFile (now (file .entry))) (at (now (job .entry)) (now (first .entry)) (now (second .entry))) .second ≡ now (second .entry)) ⌝ }
 {
     let s = calls::load(*job, table, file, first, second);
+    *job = s.job;
+    s.answer
+}
+
+#[no_mangle]
+pub extern "C" fn mask_load_three(
+    job: &mut Job,
+    table: Table,
+    one: &[u8],
+    two: &[u8],
+    three: &[u8],
+    first: &mut [u8],
+    second: &[u8],
+) -> Checked
+    ensures { λ r. ⌜ (r ≡ ofVerdict (loadVerdict table (fromThree (now (one .entry)) (now (two .entry)) (now (three .entry))) (at (now (job .entry)) (now (first .entry)) (now (second .entry)))))
+        × (now (job .exit) ≡ loadState table (fromThree (now (one .entry)) (now (two .entry)) (now (three .entry))) (at (now (job .entry)) (now (first .entry)) (now (second .entry))) .job)
+        × (now (first .exit) ≡ loadState table (fromThree (now (one .entry)) (now (two .entry)) (now (three .entry))) (at (now (job .entry)) (now (first .entry)) (now (second .entry))) .first)
+        × (loadState table (fromThree (now (one .entry)) (now (two .entry)) (now (three .entry))) (at (now (job .entry)) (now (first .entry)) (now (second .entry))) .second ≡ now (second .entry)) ⌝ }
+{
+    let s = calls::load_three(*job, table, one, two, three, first, second);
     *job = s.job;
     s.answer
 }

@@ -3,6 +3,7 @@ pub mod Files
 pub mod Figures
 pub mod Images
 pub mod Locality
+pub mod Majority
 pub mod Demand1
 pub mod Demand2
 pub mod Demand3

@@ -30,4 +30,5 @@ pub mod Demand2
 pub mod Demand3
 pub mod SameSource
 pub mod Padding
+pub mod Majority
 pub mod Witness

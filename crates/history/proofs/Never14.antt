@@ -28,7 +28,7 @@ use Rattle.verdict.proofs.Numbers.{says-if, says-or, one-of-more, one-of-other}
 
 -- because of the input
 abbrev pub inputNumbers : List ℕ
-inputNumbers = 3 ∷ 4 ∷ 5 ∷ 6 ∷ 7 ∷ 9 ∷ 10 ∷ 11 ∷ 13 ∷ 18 ∷ []
+inputNumbers = 3 ∷ 4 ∷ 5 ∷ 6 ∷ 7 ∷ 9 ∷ 10 ∷ 11 ∷ 13 ∷ 18 ∷ 26 ∷ []
 
 -- and because of the state, without 14
 abbrev callNumbers : List ℕ

@@ -1,4 +1,5 @@
 -- Unused bits and jobs: the proof of specs/Padding.
+--     load-refusals   the numbers that a load is refused by; 12 is none of them
 --     job-padding     the claim
 -- Assumes nothing.
 use mathlib.Core.Bool.{true}
@@ -32,8 +33,7 @@ use Rattle.verdict.specs.Numbers.{by, OneOf}
 use Rattle.verdict.proofs.Numbers.{one-of-more, one-of-other}
 use Rattle.verdict.proofs.Rules.{orElse-left}
 
--- the numbers that a load is refused by
-load-refusals : (t : Table) (x : Source) (s : State) → OneOf (14 ∷ 15 ∷ inputNumbers) (loadVerdict t x s)
+pub load-refusals : (t : Table) (x : Source) (s : State) → OneOf (14 ∷ 15 ∷ inputNumbers) (loadVerdict t x s)
 load-refusals t x s = load-says t x s (by refl) (by refl) (one-of-more (record-numbers t) refl) (one-of-more (source-numbers x) refl) (by refl)
 
 -- files that differ in unused bits alone

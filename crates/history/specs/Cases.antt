@@ -1,14 +1,16 @@
--- A list of calls whose every step is computed, with what 01 says of it; and covers, empty records and bad tables, with what 02 (T-05, T-01, T-07)
--- says of them.
+-- Lists of calls whose every step is computed, with what 01 says of it; and covers, empty records, bad tables and three files, with what 02 (T-05,
+-- T-01, T-07, T-12) says of them.
 --     row c w       after the call c: refusal number, stage, passes, added, removed, black in view, cover, history (0 empty, 1 held, 2 settled)
 --     trace cs w    the rows of a list of calls
---     dotFile       a 5 × 5 image, black only in the middle
+--     dotFile       a 5 × 5 image, black only in the middle; blankFile: a white one; lowFile: a 5 × 4 one; wideFile, badFile: refused by 10, by 9
 --     cases-met     one theorem, computed
 --     covers        black pixels, pixels, and the cover expected of them
 --     covers-met    computed
 --     emptyWith t   an empty record, but for its table
 --     tables        one field of each is not zero; unsound-met: computed, with such a table it is unsound
 --     heldWith t    a record of a blank 5 × 5 image, with a table
+--     badThrees     three files, with the refusal of each load on empty areas; threes-met: computed; parts r: what a refusal consists of
+--     three-cases-met   one theorem, computed: loads of three files in a list
 --     badTables     with the refusal of each; loads-met: computed, a load passes it on; held-met: computed, held in a record the table is 14 with zeros
 -- Assumes nothing.
 use mathlib.Core.Bool.{true, false, cond}
@@ -23,10 +25,10 @@ use Rattle.history.specs.Call.{Call, load, pass, run, collect, answerOf,
 use Rattle.history.specs.Computing.{computing}
 use Rattle.history.specs.History.{History, empty, holds}
 use Rattle.history.specs.Lists.{Course, start, step}
-use Rattle.history.specs.Source.{fromFile}
+use Rattle.history.specs.Source.{Source, fromFile, fromThree}
 use Rattle.history.specs.State.{State, unsound}
 use Rattle.history.specs.View.{viewOf, cover, figuresOf}
-use Rattle.seq.specs.Lists.{sameList}
+use Rattle.seq.specs.Lists.{all, sameList}
 use Rattle.table.specs.declared.Table.{Table}
 use Rattle.table.specs.Record.{zeroTable}
 use Rattle.table.specs.Sample.{filled, listed}
@@ -162,3 +164,58 @@ loads-met = refl
 pub held-met : map (λ c. refusalOf (answerOf pass (heldWith (c .0)))) badTables ≡ map (λ c. Refused (refusal 14 0)) badTables
 unfolding computing
 held-met = refl
+
+abbrev pub blankFile : List ℕ
+blankFile = 0x50 ∷ 0x34 ∷ 0x0A ∷ 0x35 ∷ 0x20 ∷ 0x35 ∷ 0x0A ∷ 0x00 ∷ 0x00 ∷ 0x00 ∷ 0x00 ∷ 0x00 ∷ []
+
+abbrev pub lowFile : List ℕ
+lowFile = 0x50 ∷ 0x34 ∷ 0x0A ∷ 0x35 ∷ 0x20 ∷ 0x34 ∷ 0x0A ∷ 0x00 ∷ 0x00 ∷ 0x20 ∷ 0x00 ∷ []
+
+abbrev pub wideFile : List ℕ
+wideFile = 0x50 ∷ 0x34 ∷ 0x0A ∷ 0x33 ∷ 0x30 ∷ 0x30 ∷ 0x20 ∷ 0x31 ∷ 0x0A ∷ []
+
+abbrev pub badFile : List ℕ
+badFile = 0x78 ∷ []
+
+abbrev pub badThrees : List (Source × Refusal)
+badThrees =
+    (fromThree dotFile wideFile badFile, refusal 10 0)
+    ∷ (fromThree dotFile lowFile badFile, refusal 9 0)
+    ∷ (fromThree dotFile lowFile dotFile, refusal 26 2)
+    ∷ (fromThree dotFile dotFile lowFile, refusal 26 3)
+    ∷ (fromThree dotFile lowFile lowFile, refusal 26 2)
+    ∷ (fromThree dotFile dotFile dotFile, refusal 13 0)
+    ∷ []
+
+abbrev pub parts : Refusal → List ℕ
+parts r = r .number ∷ r .place ∷ r .witness ∷ r .position ∷ []
+
+pub threes-met : all (λ c. sameList (parts (said (refusalOf (answerOf (load ring (c .0)) (emptyWith zeroTable))))) (parts (c .1))) badThrees ≡ true
+unfolding computing
+threes-met = refl
+
+-- black in two of three, then in one of three
+abbrev threeCalls : List Call
+threeCalls =
+    load ring (fromThree dotFile lowFile dotFile)
+    ∷ load ring (fromThree dotFile blankFile dotFile)
+    ∷ load ring (fromThree dotFile dotFile dotFile)
+    ∷ run
+    ∷ collect (replicate 12 0)
+    ∷ load ring (fromThree dotFile blankFile blankFile)
+    ∷ run
+    ∷ []
+
+abbrev threeExpected : List ℕ
+threeExpected =
+    (26 ∷ 0 ∷ 0 ∷ 0 ∷ 0 ∷ 0 ∷ 0 ∷ 0 ∷ [])
+    ++ (0 ∷ 1 ∷ 0 ∷ 0 ∷ 0 ∷ 1 ∷ 40 ∷ 1 ∷ [])
+    ++ (15 ∷ 1 ∷ 0 ∷ 0 ∷ 0 ∷ 1 ∷ 40 ∷ 1 ∷ [])
+    ++ (0 ∷ 2 ∷ 1 ∷ 0 ∷ 1 ∷ 0 ∷ 0 ∷ 2 ∷ [])
+    ++ (0 ∷ 0 ∷ 0 ∷ 0 ∷ 0 ∷ 0 ∷ 0 ∷ 0 ∷ [])
+    ++ (0 ∷ 1 ∷ 0 ∷ 0 ∷ 0 ∷ 0 ∷ 0 ∷ 1 ∷ [])
+    ++ (0 ∷ 2 ∷ 0 ∷ 0 ∷ 0 ∷ 0 ∷ 0 ∷ 2 ∷ [])
+
+pub three-cases-met : sameList (trace threeCalls (start (replicate 25 7) (replicate 25 7))) threeExpected ≡ true
+unfolding computing
+three-cases-met = refl

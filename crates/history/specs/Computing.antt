@@ -19,7 +19,9 @@ unfolding Rattle.seq.specs.Bits.bit Rattle.seq.specs.Bits.bitsOf Rattle.seq.s
     Rattle.image.specs.Header.widthPart Rattle.image.specs.Header.heightPart Rattle.image.specs.Header.raster Rattle.image.specs.Header.startsMagic
     Rattle.image.specs.Header.headerForm Rattle.image.specs.Header.widthOf Rattle.image.specs.Header.heightOf Rattle.image.specs.Header.decimal
     Rattle.image.specs.Header.header Rattle.image.specs.File.imageOf Rattle.image.specs.Size.within Rattle.image.specs.Size.badSize
-    Rattle.image.specs.Size.rowBytes Rattle.operator.specs.Image.black Rattle.operator.specs.Image.added Rattle.operator.specs.Image.removed
+    Rattle.image.specs.Size.rowBytes Rattle.image.specs.Majority.majorityOf Rattle.image.specs.Majority.threeVerdict
+    Rattle.image.specs.Majority.majorityVerdict Rattle.image.specs.Majority.majorityRead Rattle.image.specs.Majority.majorityArea
+    Rattle.operator.specs.Image.black Rattle.operator.specs.Image.added Rattle.operator.specs.Image.removed
     Rattle.operator.specs.Image.differs Rattle.operator.specs.Image.exchange Rattle.operator.specs.Pass.inside Rattle.operator.specs.Pass.solid
     Rattle.operator.specs.Pass.opened Rattle.operator.specs.Pass.held Rattle.operator.specs.Pass.passAt Rattle.operator.specs.Pass.pass
     Rattle.history.specs.Call.answerOf Rattle.history.specs.Call.stateOf Rattle.history.specs.Collect.collected

@@ -16,6 +16,7 @@ pub mod Demand1
 pub mod Demand2
 pub mod Demand3
 pub mod Padding
+pub mod Majority
 pub mod Witness
 pub mod Computing
 pub mod Cases

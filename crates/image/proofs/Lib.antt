@@ -11,6 +11,7 @@ pub mod ReadOf
 pub mod Unpacked
 pub mod Values
 pub mod PixelsOf
+pub mod ThreeFiles
 pub mod Packed
 pub mod PackedRows
 pub mod Decimal

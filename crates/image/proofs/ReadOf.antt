@@ -1,7 +1,7 @@
--- What the reader answers and leaves in the area, from the layout of the file.
---     read-refused      the file is refused
+-- What the readers find and answer, from the layout of a file.
+--     read-refused, size-refused        the file is refused
 --     read-sides, read-start, read-length     an image's size is within the limits, and its raster is the end of the file, of the length due
---     read-image        answer and area by rule 13
+--     read-image, size-image            answer and area by rule 13; the size
 -- Assumes nothing.
 use mathlib.Core.List.{List}
 use mathlib.Core.Path.{_≡_, refl, _∙_}
@@ -13,6 +13,7 @@ use Rattle.image.specs.declared.ImageRead.the-variants as read
 use Rattle.image.specs.declared.layout.Layout.the-variants as layout
 use Rattle.image.specs.Code.Layout.{rasterStart, layoutIf, layoutOf}
 use Rattle.image.specs.Code.Rows.{Sides}
+use Rattle.image.specs.Code.Three.{sizeOf}
 use Rattle.image.specs.File.{pixelsOf, fileVerdict, areaRule, readAs, imageVerdict, imageRead, imageArea}
 use Rattle.image.specs.Header.{widthOf, heightOf}
 use Rattle.image.specs.Size.{rowBytes}
@@ -53,6 +54,10 @@ pub read-refused : (f : List ℕ) {r : Refusal} → layoutOf f ≡ layout.Refuse
 unfolding imageRead imageArea imageVerdict
 read-refused f {r} e area = (simp (untold f r e), simp (untold f r e))
 
+pub size-refused : (f : List ℕ) {r : Refusal} → layoutOf f ≡ layout.Refused r → read.Refused r ≡ sizeOf f
+unfolding sizeOf
+size-refused f {r} e = simp (untold f r e)
+
 module _ (f : List ℕ) {w h start : ℕ} (image : layoutOf f ≡ layout.Image w h start) where
   t : Told f w h start
   t = told f w h start image
@@ -72,3 +77,7 @@ module _ (f : List ℕ) {w h start : ℕ} (image : layoutOf f ≡ layout.Image w
   unfolding imageRead imageArea imageVerdict
   read-image area p q =
       (p ∙ simp (t .verdict, t .width, t .height), q ∙ simp (t .verdict, t .width, t .height, raster-part f start (t .place)))
+
+  pub size-image : read.Size w h ≡ sizeOf f
+  unfolding sizeOf
+  size-image = simp (t .verdict, t .width, t .height)

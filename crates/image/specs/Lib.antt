@@ -1,6 +1,7 @@
 pub mod Size
 pub mod Header
 pub mod File
+pub mod Majority
 pub mod Parts
 pub mod Padding
 pub mod RoundTrip

@@ -10,6 +10,7 @@ ghost use Rattle.image.specs.File.{imageRead, imageArea, pixelVerdict, i
 
 mod header;
 mod layout;
+pub mod majority;
 mod number;
 mod pack;
 mod pixels;

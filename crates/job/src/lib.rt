@@ -1,6 +1,6 @@
-// The calls on a job (01, The job). Each promise says the answer, the record and both areas afterwards. Each call checks the record with its areas first (14), and a refused call alters nothing; a run that
-// 14's pass clause stops keeps the passes before it. Load, pass, run and collect come in two forms: `.._core` takes the record by value and
-// hands it back, and the form that 01 names is lent the record and writes it back.
+// The calls on a job (01, The job). Each promise says the answer, the record and both areas afterwards. Each call checks the record with its areas
+// first (14), and a refused call alters nothing; a run that 14's pass clause stops keeps the passes before it. Both loads, pass, run and collect come
+// in two forms: `.._core` takes the record by value and hands it back, and the form that 01 names is lent the record and writes it back.
 use history::Figured;
 use history::Job;
 use history::Passed;
@@ -16,7 +16,7 @@ ghost use Rattle.history.specs.Collect.{collectWritten, collectOutput, collectS
 ghost use Rattle.history.specs.Load.{admitRules, loadVerdict, loadState};
 ghost use Rattle.history.specs.Pass.{passOf};
 ghost use Rattle.history.specs.Run.{runOf};
-ghost use Rattle.history.specs.Source.{fromFile};
+ghost use Rattle.history.specs.Source.{fromFile, fromThree};
 ghost use Rattle.history.specs.State.{emptyJob, readyVerdict};
 ghost use Rattle.history.specs.View.{viewOf, figuresOf};
 ghost use Rattle.job.specs.Core.{at, loaded, entering, stepped, emptied};
@@ -67,6 +67,54 @@ pub fn load(job: &mut Job, table: Table, file: &[u8], first: &mut [u8], second: 
         × (loadState table (fromFile (now (file .entry))) (at (now (job .entry)) (now (first .entry)) (now (second .entry))) .second ≡ now (second .entry)) ⌝ }
 {
     let s = load_core(*job, table, file, first, second);
+    *job = s.job;
+    s.answer
+}
+
+// Load from three files of one size, whose majority is the image (02, T-12): 14, 15, table, each sheet in turn, 26, 13.
+pub fn load_three_core(
+    job: Job,
+    table: Table,
+    one: &[u8],
+    two: &[u8],
+    three: &[u8],
+    first: &mut [u8],
+    second: &[u8],
+) -> Loaded
+    ensures { λ r. ⌜ (r ≡ loaded (loadVerdict table (fromThree (now (one .entry)) (now (two .entry)) (now (three .entry))) (at job (now (first .entry)) (now (second .entry))))
+        (loadState table (fromThree (now (one .entry)) (now (two .entry)) (now (three .entry))) (at job (now (first .entry)) (now (second .entry)))))
+        × (now (first .exit) ≡ loadState table (fromThree (now (one .entry)) (now (two .entry)) (now (three .entry))) (at job (now (first .entry)) (now (second .entry))) .first)
+        × (loadState table (fromThree (now (one .entry)) (now (two .entry)) (now (three .entry))) (at job (now (first .entry)) (now (second .entry))) .second ≡ now (second .entry)) ⌝ }
+{
+    if let Verdict::Refused(refusal) = admit(job, table, first, second) {
+        return Loaded {
+            answer: Verdict::Refused(refusal),
+            job,
+        };
+    }
+    let both = common(first, second);
+    enter(
+        job,
+        table,
+        image::majority::read(one, two, three, &mut first[..both]),
+    )
+}
+
+pub fn load_three(
+    job: &mut Job,
+    table: Table,
+    one: &[u8],
+    two: &[u8],
+    three: &[u8],
+    first: &mut [u8],
+    second: &[u8],
+) -> Verdict
+    ensures { λ r. ⌜ (r ≡ loadVerdict table (fromThree (now (one .entry)) (now (two .entry)) (now (three .entry))) (at (now (job .entry)) (now (first .entry)) (now (second .entry))))
+        × (now (job .exit) ≡ loadState table (fromThree (now (one .entry)) (now (two .entry)) (now (three .entry))) (at (now (job .entry)) (now (first .entry)) (now (second .entry))) .job)
+        × (now (first .exit) ≡ loadState table (fromThree (now (one .entry)) (now (two .entry)) (now (three .entry))) (at (now (job .entry)) (now (first .entry)) (now (second .entry))) .first)
+        × (loadState table (fromThree (now (one .entry)) (now (two .entry)) (now (three .entry))) (at (now (job .entry)) (now (first .entry)) (now (second .entry))) .second ≡ now (second .entry)) ⌝ }
+{
+    let s = load_three_core(*job, table, one, two, three, first, second);
     *job = s.job;
     s.answer
 }

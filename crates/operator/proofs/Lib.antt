@@ -9,6 +9,7 @@ pub mod Counts
 pub mod Exchange
 pub mod Order
 pub mod Rest
+pub mod Majority
 pub mod Heijmans
 pub mod Kept
 pub mod Window

@@ -3,6 +3,7 @@
 --     bit-one, bit-none, one-bit    a bit by its digit, both ways
 --     bit-half, bit-shr             the bits of a half, and after a shift to the right
 --     bit-shl, bit-low              the bits after a shift to the left
+--     and-digit, or-digit           a digit of a bitwise and is the lesser of two, of a bitwise or the greater
 --     bit-and                       a bit of a bitwise and
 --     bit-above                     no bit stands at or above k in a number below 2 ^ k
 --     bits-ext                      numbers below 2 ^ k with the same bits below k are equal
@@ -14,12 +15,12 @@
 use mathlib.Core.Bool.{Bool, true, false, not, _&&_}
 use mathlib.Core.List.{List·Memᴰ}
 use mathlib.Core.Path.{_≡_, refl, sym, ap, _∙_}
-use Prim.Native.Nat.{ℕ, zero, suc, _+_, _-_, _*_, _/_, _%_, _^_, _≤_, _<_, min, zero-le, suc-le-suc}
+use Prim.Native.Nat.{ℕ, zero, suc, _+_, _-_, _*_, _/_, _%_, _^_, _≤_, _<_, min, max, zero-le, suc-le-suc}
 use native.Mathlib.Nat.{div-one, div-eq-of-lt, pow-suc, lt-of-lt-of-le, lt-of-le-of-lt, mul-assoc}
 use native.Mathlib.Omega.{arith}
 use borrow.Author.Tests.{eq-eqb, ne-eqb, eqb-true, eqb-false, not-true, not-false}
 use lib.Arith.{lt-one}
-use lib.Bits.{bitAnd, and-step, and-shr, and-le-l}
+use lib.Bits.{bitAnd, bitOr, and-step, or-step, and-shr, or-shr, and-le-l}
 use lib.Dec.{eqb}
 use lib.Pow.{pow-pos, pow-mono, pow-add, shr-shr, shl-shr}
 use Rattle.seq.specs.Bits.{bit, bitsOf}
@@ -83,13 +84,16 @@ bit-above m k n h l =
     (λ e. let z : m / 2 ^ n ≡ 0 = div-eq-of-lt (lt-of-lt-of-le h (pow-mono l)) in
     omega (arith, ap (λ (d : ℕ). d % 2) z))
 
+pub and-digit : (e f n : ℕ) → bitAnd e f / 2 ^ n % 2 ≡ min (e / 2 ^ n % 2) (f / 2 ^ n % 2)
+and-digit e f n = ap (λ (x : ℕ). x % 2) (and-shr e f n ∙ and-step (e / 2 ^ n) (f / 2 ^ n)) ∙ omega arith
+
+pub or-digit : (e f n : ℕ) → bitOr e f / 2 ^ n % 2 ≡ max (e / 2 ^ n % 2) (f / 2 ^ n % 2)
+or-digit e f n = ap (λ (x : ℕ). x % 2) (or-shr e f n ∙ or-step (e / 2 ^ n) (f / 2 ^ n)) ∙ omega arith
+
 pub bit-and : (e f n : ℕ) → bit (bitAnd e f) n ≡ (bit e n && bit f n)
 unfolding bit
-bit-and e f n = ap (λ (d : ℕ). eqb d 1) least ∙ both (e / 2 ^ n % 2) (f / 2 ^ n % 2) (omega arith) (omega arith)
+bit-and e f n = ap (λ (d : ℕ). eqb d 1) (and-digit e f n) ∙ both (e / 2 ^ n % 2) (f / 2 ^ n % 2) (omega arith) (omega arith)
   where
-    least : bitAnd e f / 2 ^ n % 2 ≡ min (e / 2 ^ n % 2) (f / 2 ^ n % 2)
-    least = ap (λ (x : ℕ). x % 2) (and-shr e f n ∙ and-step (e / 2 ^ n) (f / 2 ^ n)) ∙ omega arith
-
     both : (a b : ℕ) → a < 2 → b < 2 → eqb (min a b) 1 ≡ (eqb a 1 && eqb b 1)
     both zero zero p q = refl
     both zero (suc zero) p q = refl

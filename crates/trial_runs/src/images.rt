@@ -1,9 +1,47 @@
-// Generated images: blocks of either colour, some as large as the image, with some pixels turned.
+// Generated images: blocks of either colour, some as large as the image, with some pixels turned; and the pool of three of them.
 use crate::bytes;
+use crate::bytes::AREA;
 use crate::generator;
 use crate::grid;
 use crate::grid::Place;
 use crate::grid::Size;
+
+// Three images of one size.
+pub(crate) struct Triple {
+    pub one: [u8; AREA],
+    pub two: [u8; AREA],
+    pub three: [u8; AREA],
+}
+
+pub(crate) fn three(seed: u32, size: Size) -> Triple {
+    Triple {
+        one: drawn(seed, size),
+        two: drawn(generator::draw(seed, 21), size),
+        three: drawn(generator::draw(seed, 22), size),
+    }
+}
+
+fn drawn(seed: u32, size: Size) -> [u8; AREA] {
+    let mut area = bytes::filled(0);
+    draw(seed, size, &mut area);
+    area
+}
+
+// Second implementation (02, T-12): a pixel is black when at least two have it black. Into the front of an area.
+pub(crate) fn pool(images: Triple, size: Size, area: &mut [u8]) {
+    let one = images.one;
+    let two = images.two;
+    let three = images.three;
+    for k in 0..grid::pixels(size) {
+        let value = pooled(bytes::at(&one, k), bytes::at(&two, k), bytes::at(&three, k));
+        bytes::put(area, k, value);
+    }
+}
+
+fn pooled(one: u8, two: u8, three: u8) -> u8 {
+    let black = bytes::more(bytes::more(one as usize, two as usize), three as usize);
+    (2 <= black) as u8
+}
 
 // Draws an image into the front of an area.
 pub(crate) fn draw(seed: u32, size: Size, area: &mut [u8]) {

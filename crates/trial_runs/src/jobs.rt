@@ -12,10 +12,15 @@ use table::Table;
 // More passes than a job of a trial has.
 const MOST: usize = 2000;
 
-// A whole job: load, passes until nothing changes, then the rest. `made` is what the library leaves, `meant` what it is to leave.
+// A whole job from a file: load, and what follows it.
 pub(crate) fn whole(tally: Tally, seed: u32, loaded: Side) -> Tally {
+    followed(tally, seed, library::load(sides::start(), loaded), loaded)
+}
+
+// From a load on: passes until nothing changes, then the rest. `made` is what the library leaves, `meant` what it is to leave.
+pub(crate) fn followed(tally: Tally, seed: u32, begun: Side, loaded: Side) -> Tally {
     let mut so_far = tally;
-    let mut made = library::load(sides::start(), loaded);
+    let mut made = begun;
     let mut meant = loaded;
     for k in 0..MOST {
         let counted = compared(so_far, seed, made, meant);
@@ -31,7 +36,7 @@ pub(crate) fn whole(tally: Tally, seed: u32, loaded: Side) -> Tally {
     report::disagree(so_far, seed)
 }
 
-// View, figures, collect; and on the emptied record load and run, which is to end as the passes did.
+// View, figures, collect; and on the emptied record a load of the same file three times, and a run, which is to end as the passes did.
 fn rest(tally: Tally, seed: u32, made: Side, meant: Side, loaded: Side) -> Tally {
     let counted = compared(tally, seed, library::view(made), definition::view(meant));
     let counted = compared(
@@ -42,7 +47,7 @@ fn rest(tally: Tally, seed: u32, made: Side, meant: Side, loaded: Side) -> Tally
     );
     let emptied = library::collect(made);
     let counted = compared(counted, seed, emptied, definition::collect(meant));
-    let again = library::run(library::load(emptied, loaded));
+    let again = library::run(library::load_thrice(emptied, loaded));
     report::with_pair(compared(counted, seed, again, meant), meant.job)
 }
 

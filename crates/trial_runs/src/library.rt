@@ -1,6 +1,8 @@
 // The library's calls on one side of a trial.
 use crate::bytes;
 use crate::files;
+use crate::grid::Size;
+use crate::images::Triple;
 use crate::sides;
 use crate::sides::Side;
 use history::Figured;
@@ -31,11 +33,49 @@ fn load_file(side: Side, table: Table, file: &[u8]) -> Side {
     let second = side.second;
     let made = job::load_core(side.job, table, file, &mut first, &second);
     let verdict = made.answer;
-    let told = match verdict {
+    sides::with_areas(made.job, first, second, judged(verdict))
+}
+
+// The same file three times.
+pub(crate) fn load_thrice(side: Side, loaded: Side) -> Side {
+    let job = loaded.job;
+    let pixels = loaded.first;
+    let sheet = files::written(sides::size(job), &pixels);
+    let bytes = sheet.bytes;
+    let file = bytes::front(&bytes, sheet.length);
+    load_files(side, job.table, file, file, file)
+}
+
+// Loads the files of three images.
+pub(crate) fn load_three(side: Side, table: Table, size: Size, images: Triple) -> Side {
+    let one = files::written(size, &images.one);
+    let two = files::written(size, &images.two);
+    let three = files::written(size, &images.three);
+    let first = one.bytes;
+    let second = two.bytes;
+    let third = three.bytes;
+    load_files(
+        side,
+        table,
+        bytes::front(&first, one.length),
+        bytes::front(&second, two.length),
+        bytes::front(&third, three.length),
+    )
+}
+
+fn load_files(side: Side, table: Table, one: &[u8], two: &[u8], three: &[u8]) -> Side {
+    let mut first = side.first;
+    let second = side.second;
+    let made = job::load_three_core(side.job, table, one, two, three, &mut first, &second);
+    let verdict = made.answer;
+    sides::with_areas(made.job, first, second, judged(verdict))
+}
+
+fn judged(verdict: Verdict) -> usize {
+    match verdict {
         Verdict::Accepted => 0,
         Verdict::Refused(refusal) => refused(refusal),
-    };
-    sides::with_areas(made.job, first, second, told)
+    }
 }
 
 pub(crate) fn pass(side: Side) -> Side {

@@ -10,7 +10,6 @@ use crate::library;
 use crate::report;
 use crate::report::Tally;
 use crate::sides;
-use crate::sides::Side;
 use crate::tables;
 ghost use Prim.Native.Nat.{_<_};
 
@@ -52,13 +51,27 @@ fn bar() -> [u8; AREA] {
     area
 }
 
-fn pair(seed: u32, size: Size) -> Side {
+fn pair(tally: Tally, seed: u32, size: Size) -> Tally {
     let mut first = bytes::filled(sides::FIRST);
     images::draw(seed, size, &mut first);
-    definition::load(tables::generated(seed), size, first)
+    jobs::whole(
+        tally,
+        seed,
+        definition::load(tables::generated(seed), size, first),
+    )
 }
 
-// Pairs of every width up to one limit with every height up to another, again and again.
+// The image is that of three files.
+fn pooled(tally: Tally, seed: u32, size: Size) -> Tally {
+    let table = tables::generated(seed);
+    let drawn = images::three(seed, size);
+    let mut first = bytes::filled(sides::FIRST);
+    images::pool(drawn, size, &mut first);
+    let begun = library::load_three(sides::start(), table, size, drawn);
+    jobs::followed(tally, seed, begun, definition::load(table, size, first))
+}
+
+// Pairs of every width up to one limit with every height up to another, again and again; in every fifth the image is that of three files.
 pub(crate) fn generated(tally: Tally, seed: u32, wide: usize, high: usize) -> Tally
     requires { ⌜ (0 < wide) × (0 < high) ⌝ }
 {
@@ -69,8 +82,13 @@ pub(crate) fn generated(tally: Tally, seed: u32, wide: usize, high: usize) -> Ta
             height: bytes::more(1, k / wide % high),
         };
         let drawn = generator::draw(seed, k as u32);
-        let made = jobs::whole(next, drawn, pair(drawn, size));
-        next = made;
+        if k % 5 == 4 {
+            let made = pooled(next, drawn, size);
+            next = made;
+        } else {
+            let made = pair(next, drawn, size);
+            next = made;
+        }
     }
     next
 }

@@ -1,6 +1,6 @@
 -- The laws of check lists.
 --     orElse-assoc, orElse-accepted, orElse-left, orElse-right   verdicts in a row
---     judge-append, judge-last      a list of rules in two parts, and with one rule more at its end
+--     judge-append, judge-last, judge-within      a list of rules in two parts, with one rule more at its end, and with the verdict of a list within
 --     judge-accepted    every rule of an accepted list accepts
 --     accepted-judge    a list of rules that all accept
 --     refuseIf-accepted, refuseBy-accepted, refuseAt-accepted    what a rule that accepts says of its test, of its search
@@ -9,7 +9,7 @@
 use mathlib.Core.Bool.{Bool, true, false}
 use mathlib.Core.List.{List, [], _∷_, _++_, List·Memᴰ, List·Memᴰ·head, List·Memᴰ·tail}
 use mathlib.Core.Option.{Option, none, some, Option·map}
-use mathlib.Core.Path.{_≡_, refl, ap, _∙_}
+use mathlib.Core.Path.{_≡_, refl, sym, ap, _∙_}
 use Prim.Native.Nat.{ℕ}
 use native.Mathlib.Omega.{arith}
 use Rattle.verdict.specs.declared.Refusal.{Refusal}
@@ -21,6 +21,11 @@ pub judge-append : (vs ws : List Verdict) → judge (vs ++ ws) ≡ orElse (judge
 judge-append [] ws = refl
 judge-append (Accepted ∷ vs) ws = judge-append vs ws
 judge-append (Refused r ∷ vs) ws = refl
+
+-- a list of rules in place of one that judges by it
+pub judge-within : (us vs ws : List Verdict) → judge (us ++ judge vs ∷ ws) ≡ judge (us ++ (vs ++ ws))
+judge-within [] vs ws = sym (judge-append vs ws)
+judge-within (u ∷ us) vs ws = ap (orElse u) (judge-within us vs ws)
 
 -- a refusal is no acceptance
 pub refused-accepted {ℓ} : {P : Type ℓ} {v : Verdict} {r : Refusal} → v ≡ Refused r → v ≡ Accepted → P

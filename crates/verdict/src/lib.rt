@@ -86,3 +86,5 @@ pub const NOTHING_LOADED: u32 = 16;
 pub const NOT_STABLE: u32 = 17;
 
 pub const RANK_COUNT: u32 = 18;
+
+pub const SIZES_DIFFER: u32 = 26;

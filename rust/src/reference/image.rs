@@ -65,6 +65,27 @@ pub fn parse(file: &[u8]) -> Result<Image, Refusal> {
     }))
 }
 
+/// The majority of three files' images (T-12): each file by the rules 9 to 11, one after the other, then 26 at the first
+/// image that does not have the size of the first.
+pub fn parse_three([one, two, three]: [&[u8]; 3]) -> Result<Image, Refusal> {
+    let images = [parse(one)?, parse(two)?, parse(three)?];
+    let size = |image: &Image| (image.width, image.height);
+    let differs = |image: &Image| size(image) != size(&images[0]);
+    match images.iter().position(differs) {
+        Some(i) => Err(Refusal::at(Reason::SizesDiffer, i + 1)),
+        None => Ok(majority(&images)),
+    }
+}
+
+/// Of three images of one size: black where at least two have it black.
+pub fn majority(images: &[Image; 3]) -> Image {
+    let Image { width, height, .. } = images[0];
+    Image::from_fn(width, height, |x, y| {
+        let black = |image: &&Image| image.pixels[y * width + x] == 1;
+        u8::from(images.iter().filter(black).count() >= 2)
+    })
+}
+
 /// Bit x of a row, the leftmost pixel being the highest bit of the first byte.
 fn bit(row: &[u8], x: usize) -> u8 {
     row[x / 8] >> (7 - x % 8) & 1

@@ -1,4 +1,4 @@
-//! 01, "The job": load, pass, run, view, figures, collect on a record and two areas.
+//! 01, "The job": load, load of three files, pass, run, view, figures, collect on a record and two areas.
 
 use super::image::{self, Image};
 use super::{pass as rule, table};
@@ -66,7 +66,7 @@ fn check_loaded(record: &JobRecord, first: &[u8], second: &[u8]) -> Result<(), R
     refuse_unless(record.stage != STAGE_EMPTY, Reason::Empty)
 }
 
-/// 14, 15, table, image, 13. The second area stays as it is.
+/// A load of one file.
 pub fn load(
     record: &mut JobRecord,
     table: &TableRecord,
@@ -74,10 +74,32 @@ pub fn load(
     first: &mut [u8],
     second: &[u8],
 ) -> Result<(), Refusal> {
+    load_image(record, table, image::parse(file), first, second)
+}
+
+/// A load of the majority of three (T-12).
+pub fn load_three(
+    record: &mut JobRecord,
+    table: &TableRecord,
+    files: [&[u8]; 3],
+    first: &mut [u8],
+    second: &[u8],
+) -> Result<(), Refusal> {
+    load_image(record, table, image::parse_three(files), first, second)
+}
+
+/// 14, 15, table, what the image was refused by, 13. The second area stays as it is.
+fn load_image(
+    record: &mut JobRecord,
+    table: &TableRecord,
+    image: Result<Image, Refusal>,
+    first: &mut [u8],
+    second: &[u8],
+) -> Result<(), Refusal> {
     check_sound(record, first, second)?;
     refuse_unless(record.stage == STAGE_EMPTY, Reason::NotCollected)?;
     table::check(table)?;
-    let image = image::parse(file)?;
+    let image = image?;
     refuse_unless(second.len() >= image.pixels.len(), Reason::Short)?;
     image::fill(first, &image.pixels)?;
     *record = JobRecord {

@@ -9,6 +9,7 @@ use mask_cleaner::reference::image::{file_of, Image};
 use mask_cleaner::{library, reference};
 use std::collections::BTreeMap;
 use std::io::Write;
+use std::ops::RangeInclusive;
 use std::slice::ChunksExactMut;
 
 pub mod tables;
@@ -23,6 +24,19 @@ pub fn loaded(table: &Table, image: &Image) -> Job {
     let mut job = Job::for_pixels(image.pixels.len());
     job.load(table, &file_of(image)).expect("an accepted load");
     job
+}
+
+/// A job of the library with the majority of the images loaded.
+pub fn loaded_three(table: &Table, images: &[Image; 3]) -> Job {
+    let mut job = Job::for_pixels(images[0].pixels.len());
+    let files = images.each_ref().map(file_of);
+    let loaded = job.load_three(table, slices(&files));
+    loaded.expect("an accepted load");
+    job
+}
+
+pub fn slices(files: &[Vec<u8>; 3]) -> [&[u8]; 3] {
+    files.each_ref().map(Vec::as_slice)
 }
 
 /// The present image of a job that holds one.
@@ -75,6 +89,10 @@ impl State {
             Call::Load { table, file } => {
                 library::load(record, table, file, first, second).map(|()| Answer::Loaded)
             }
+            Call::LoadThree { table, files } => {
+                library::load_three(record, table, slices(files), first, second)
+                    .map(|()| Answer::Loaded)
+            }
             Call::Pass => library::pass(record, first, second).map(Answer::Progress),
             Call::Run => library::run(record, first, second).map(Answer::Progress),
             Call::View => library::view(record, first, second).map(|p| Answer::Pixels(p.to_vec())),
@@ -94,6 +112,10 @@ impl State {
         match call {
             Call::Load { table, file } => {
                 job::load(record, table, file, first, second).map(|()| Answer::Loaded)
+            }
+            Call::LoadThree { table, files } => {
+                job::load_three(record, table, slices(files), first, second)
+                    .map(|()| Answer::Loaded)
             }
             Call::Pass => job::pass(record, first, second).map(Answer::Progress),
             Call::Run => job::run(record, first, second).map(Answer::Progress),
@@ -137,6 +159,8 @@ impl State {
 pub struct Stock {
     tables: Vec<TableRecord>,
     files: Vec<Vec<u8>>,
+    /// Accepted ones of one size.
+    alike: Vec<Vec<u8>>,
 }
 
 impl Stock {
@@ -146,26 +170,32 @@ impl Stock {
         let mut files: Vec<Vec<u8>> = Vec::new();
         for _ in 0..4 {
             let (width, height) = (1 + random.below(longest), 1 + random.below(longest));
-            let mut file = file_of(&random_image(width, height, random));
-            if random.percent(50) {
-                fill_unused(&mut file, width, height, random);
-            }
-            files.push(file);
+            files.push(random_file(width, height, random));
         }
+        let (width, height) = (1 + random.below(longest), 1 + random.below(longest));
+        let alike = (0..3).map(|_| random_file(width, height, random)).collect();
         let mut table = tables[0];
         for _ in 0..1 + random.below(3) {
             table = damaged_table(table, random);
         }
         tables.push(table);
         files.push(damaged_file(files[0].clone(), random));
-        Stock { tables, files }
+        Stock {
+            tables,
+            files,
+            alike,
+        }
     }
 
     pub fn call(&self, random: &mut Random) -> Call {
         match random.below(20) {
-            0..=4 => Call::Load {
+            0..=2 => Call::Load {
                 table: *random.choose(&self.tables),
                 file: random.choose(&self.files).clone(),
+            },
+            3 | 4 => Call::LoadThree {
+                table: *random.choose(&self.tables),
+                files: [(); 3].map(|()| self.one_of_three(random)),
             },
             5..=11 => Call::Pass,
             12 | 13 => Call::Run,
@@ -176,6 +206,25 @@ impl Stock {
             },
         }
     }
+
+    /// A file for a load of three, mostly of the size that they have in common.
+    fn one_of_three(&self, random: &mut Random) -> Vec<u8> {
+        let files = if random.percent(80) {
+            &self.alike
+        } else {
+            &self.files
+        };
+        random.choose(files).clone()
+    }
+}
+
+/// An accepted file, with ones in its unused bits or without.
+fn random_file(width: usize, height: usize, random: &mut Random) -> Vec<u8> {
+    let mut file = file_of(&random_image(width, height, random));
+    if random.percent(50) {
+        fill_unused(&mut file, width, height, random);
+    }
+    file
 }
 
 fn damaged_table(mut table: TableRecord, random: &mut Random) -> TableRecord {
@@ -232,6 +281,13 @@ pub fn cleared(file: &[u8], width: usize, height: usize) -> Vec<u8> {
     file
 }
 
+/// The reasons whose numbers are in the range.
+pub fn reasons(numbers: RangeInclusive<u32>) -> Vec<Reason> {
+    let mut reasons = Reason::ALL.to_vec();
+    reasons.retain(|reason| numbers.contains(&reason.number()));
+    reasons
+}
+
 /// How often each answer was given.
 #[derive(Default)]
 pub struct Tally {
@@ -257,6 +313,12 @@ impl Tally {
     /// How many times the reason was given.
     pub fn times(&self, reason: Reason) -> usize {
         self.refused.get(&reason).map_or(0, |p| p.values().sum())
+    }
+
+    /// How many times it was given at the place.
+    pub fn times_at(&self, reason: Reason, place: usize) -> usize {
+        let places = self.refused.get(&reason);
+        places.and_then(|p| p.get(&place)).copied().unwrap_or(0)
     }
 
     /// At how many places the reason was given.

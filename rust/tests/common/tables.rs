@@ -32,18 +32,23 @@ pub fn write(table: &TableRecord, out: &mut [u8]) -> Result<usize, Refusal> {
     answer
 }
 
-/// Both loads and the book's, of one pixel for which there is room.
+/// A load of one pixel for which there is room, of one file and of three; the answers must agree.
 pub fn load(table: &TableRecord) -> Result<(), Refusal> {
-    let call = Call::Load {
-        table: *table,
-        file: b"P4\n1 1\n\x80".to_vec(),
-    };
+    let (table, file) = (*table, b"P4\n1 1\n\x80".to_vec());
+    let files = [(); 3].map(|()| file.clone());
+    let answer = load_by(&Call::Load { table, file });
+    assert_eq!(load_by(&Call::LoadThree { table, files }), answer);
+    answer
+}
+
+/// Both loads and the book's.
+fn load_by(call: &Call) -> Result<(), Refusal> {
     let before = State::empty(vec![7], vec![8]);
     let mut state = before.clone();
-    let answer = state.apply_both(&call, &mut []);
-    let expected = Book::default().enter(&call, state.areas());
-    assert_eq!(answer, expected, "{table:?}");
-    assert_eq!(answer.is_err(), state == before, "{table:?}");
+    let answer = state.apply_both(call, &mut []);
+    let expected = Book::default().enter(call, state.areas());
+    assert_eq!(answer, expected, "{call:?}");
+    assert_eq!(answer.is_err(), state == before, "{call:?}");
     answer.map(drop)
 }
 

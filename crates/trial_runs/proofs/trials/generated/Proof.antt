@@ -35,11 +35,11 @@ cast-draw c = search needs
 draw-requires : tie.Need-draw-requires Inv-loop μ-loop
 draw-requires c κs = search needs
 
+pooled-requires : tie.Need-pooled-requires Inv-loop μ-loop
+pooled-requires c κs = search needs
+
 pair-requires : tie.Need-pair-requires Inv-loop μ-loop
 pair-requires c κs = search needs
-
-whole-requires : tie.Need-whole-requires Inv-loop μ-loop
-whole-requires c κs = search needs
 
 add-k : tie.Need-add-k Inv-loop μ-loop
 add-k c = search needs
@@ -67,8 +67,8 @@ generated-spec =
     more-requires-2
     cast-draw
     draw-requires
+    pooled-requires
     pair-requires
-    whole-requires
     add-k
     loop-less
     loop-again

@@ -1,21 +1,15 @@
--- `trial_runs::jobs::whole` is safe and ends: the index stays within its range.
+-- `trial_runs::jobs::followed` is safe and ends: the index stays within its range.
 -- Assumes nothing.
 use Prim.Native.Nat.{_≤_, _-_}
 use borrow.Author.Needs.{needs}
-use Rattle.trial_runs.proofs.jobs.whole.Statement.{statement}
-use Rattle.trial_runs.proofs.jobs.whole.Tie as tie
+use Rattle.trial_runs.proofs.jobs.followed.Statement.{statement}
+use Rattle.trial_runs.proofs.jobs.followed.Tie as tie
 
 abbrev Inv-loop : tie.InvT-loop
 Inv-loop seed loaded so-far₀ made₀ meant₀ k₀ so-far made meant k = k ≤ 2000
 
 abbrev μ-loop : tie.MeasureT-loop
 μ-loop seed loaded so-far₀ made₀ meant₀ k₀ so-far made meant k = 2000 - k
-
-start-requires : tie.Need-start-requires Inv-loop μ-loop
-start-requires c κs = search needs
-
-load-requires : tie.Need-load-requires Inv-loop μ-loop
-load-requires c κs = search needs
 
 loop-holds : tie.Need-loop-holds Inv-loop μ-loop
 loop-holds c = search needs
@@ -50,14 +44,12 @@ disagree-requires c κs = search needs
 returns-2 : tie.Need-returns-2 Inv-loop μ-loop
 returns-2 c = search needs
 
-pub whole-spec : {M : Type 1} → statement M
-whole-spec =
+pub followed-spec : {M : Type 1} → statement M
+followed-spec =
     tie.close
     (tie.spec
     Inv-loop
     μ-loop
-    start-requires
-    load-requires
     loop-holds
     compared-requires
     rest-requires
