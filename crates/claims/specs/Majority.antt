@@ -31,7 +31,7 @@ use Rattle.image.specs.File.{imageOf, fileVerdict, imageBytes}
 use Rattle.image.specs.Header.{widthOf, heightOf}
 use Rattle.image.specs.Majority.{majorityOf, threeVerdict}
 use Rattle.image.specs.Padding.{cleared}
-use Rattle.operator.proofs.Majority.{all-majority}
+use Rattle.operator.proofs.Majority.{all-majority, all-majority-rest}
 use Rattle.operator.specs.Image.{IsImage, exchange}
 use Rattle.operator.specs.Rest.{rested}
 use Rattle.operator.specs.Samples.{ring}
@@ -48,30 +48,32 @@ pub record Three (w h : ℕ) (a b c : List ℕ) : Type 0 where
   pub second : IsImage w h b
   pub third : IsImage w h c
 
-module _ (t : Table) (w h : ℕ) (ok : recordVerdict t ≡ Accepted) (a b c : List ℕ) (i : Three w h a b c) where
+module _ (w h : ℕ) (a b c : List ℕ) (i : Three w h a b c) where
   -- a pixel is black when at least two have it black
   pub two-of-three : (k : ℕ) → k < w * h → (getD (majorityOf a b c) k 0 ≡ 1) ↔ (2 ≤ getD a k 0 + getD b k 0 + getD c k 0)
-  two-of-three = all-majority t w h ok .black a b c (i .first) (i .second) (i .third)
+  two-of-three = all-majority w h .black a b c (i .first) (i .second) (i .third)
 
   pub is-image : IsImage w h (majorityOf a b c)
-  is-image = all-majority t w h ok .image a b c (i .first) (i .second) (i .third)
+  is-image = all-majority w h .image a b c (i .first) (i .second) (i .third)
 
   pub exchanged : majorityOf (exchange a) (exchange b) (exchange c) ≡ exchange (majorityOf a b c)
-  exchanged = all-majority t w h ok .exchanged a b c (i .first) (i .second) (i .third)
+  exchanged = all-majority w h .exchanged a b c (i .first) (i .second) (i .third)
 
-  pub rest-exchanged : rested t w h (majorityOf (exchange a) (exchange b) (exchange c)) ≡ exchange (rested t w h (majorityOf a b c))
-  rest-exchanged = all-majority t w h ok .rest-exchanged a b c (i .first) (i .second) (i .third)
+  -- what it rests as
+  pub rest-exchanged : (t : Table) → recordVerdict t ≡ Accepted
+      → rested t w h (majorityOf (exchange a) (exchange b) (exchange c)) ≡ exchange (rested t w h (majorityOf a b c))
+  rest-exchanged t ok = all-majority-rest t w h ok .exchanged a b c (i .first) (i .second) (i .third)
 
   -- more black in any of the three
   module _ (a' b' c' : List ℕ) (i' : Three w h a' b' c') (p : (k : ℕ) → k < length a → getD a k 0 ≤ getD a' k 0)
       (q : (k : ℕ) → k < length b → getD b k 0 ≤ getD b' k 0) (r : (k : ℕ) → k < length c → getD c k 0 ≤ getD c' k 0) where
     pub ordered : (k : ℕ) → k < length (majorityOf a b c) → getD (majorityOf a b c) k 0 ≤ getD (majorityOf a' b' c') k 0
-    ordered = all-majority t w h ok .ordered a b c a' b' c' (i .first) (i .second) (i .third) (i' .first) (i' .second) (i' .third) p q r
+    ordered = all-majority w h .ordered a b c a' b' c' (i .first) (i .second) (i .third) (i' .first) (i' .second) (i' .third) p q r
 
-    pub rest-ordered : (k : ℕ) → k < length (rested t w h (majorityOf a b c))
+    pub rest-ordered : (t : Table) → recordVerdict t ≡ Accepted → (k : ℕ) → k < length (rested t w h (majorityOf a b c))
         → getD (rested t w h (majorityOf a b c)) k 0 ≤ getD (rested t w h (majorityOf a' b' c')) k 0
-    rest-ordered =
-        all-majority t w h ok .rest-ordered a b c a' b' c' (i .first) (i .second) (i .third) (i' .first) (i' .second) (i' .third) p q r
+    rest-ordered t ok =
+        all-majority-rest t w h ok .ordered a b c a' b' c' (i .first) (i .second) (i .third) (i' .first) (i' .second) (i' .third) p q r
 
 module _ (t : Table) (f g h : List ℕ) where
   -- 14, 15, table, the files one after the other, 26 at 2, 26 at 3, 13 where either area is below width × height

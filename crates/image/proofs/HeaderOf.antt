@@ -1,6 +1,7 @@
 -- The laws of a file's header, from those of its two numbers.
 --     number-told, number-refused       what a number at a position says of the bytes there, and its absence
 --     height-place, raster-place, raster-part     where the height and the raster stand in the file
+--     rest-part                         the part of a list from a place on
 --     no-magic, no-width, no-height, header-found     the header, as its parts are read one after the other
 -- Assumes nothing.
 use mathlib.Core.Bool.{Bool, true, false, _&&_}
@@ -47,10 +48,14 @@ unfolding raster rasterStart
 raster-place f =
     ap (drop (digits (heightPart f) + 1)) (height-place f) ∙ drop-drop (digits (heightPart f) + 1) (3 + (digits (widthPart f) + 1)) f
 
--- the raster as the reader's code takes it out of the file, as the part from a start to the end
+-- all of a list from a place on, as a part of it that ends where the list does
+pub rest-part : (l : List ℕ) (k : ℕ) → take (length l - k) (drop k l) ≡ drop k l
+rest-part l k = let n = length-drop k l in take-all (length l - k) (drop k l) (omega arith)
+
+-- so the reader's code takes the raster out of the file
 pub raster-part : (f : List ℕ) (start : ℕ) → rasterStart f ≡ start → raster f ≡ take (length f - start) (drop start f)
 raster-part f start e =
-    raster-place f ∙ ap (λ (k : ℕ). drop k f) e ∙ sym (take-all (length f - start) (drop start f) (simp length-drop (omega arith)))
+    raster-place f ∙ ap (λ (k : ℕ). drop k f) e ∙ sym (rest-part f start)
 
 pub no-magic : (f : List ℕ) → startsMagic f ≡ false → headerOf f ≡ header.Malformed
 unfolding headerOf headerForm

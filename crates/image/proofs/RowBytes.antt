@@ -1,7 +1,6 @@
 -- The laws of sizes and of the bytes of a row.
 --     row-bytes-fit     they hold the row's pixels, with fewer than eight bits to spare
---     area-few, pixels-few, raster-few    an image has at most maxPixels pixels, and its raster at most as many bytes
---     raster-most       a raster has at most maxRaster bytes
+--     area-few, pixels-few, raster-few    an image has at most maxPixels pixels, and its raster at most maxRaster bytes
 --     sides             what a size that rule 10 lets pass is
 -- Assumes nothing.
 use mathlib.Core.Bool.{true, false, _&&_}
@@ -12,8 +11,7 @@ use native.Mathlib.Omega.{arith}
 use borrow.Author.Tests.{leb-true, not-false}
 use lib.Dec.{leb}
 use Rattle.image.specs.Code.Rows.{Sides}
-use Rattle.image.specs.Code.Three.{maxRaster}
-use Rattle.image.specs.Size.{maxSide, maxPixels, within, badSize, rowBytes}
+use Rattle.image.specs.Size.{maxSide, maxPixels, maxRaster, within, badSize, rowBytes}
 use Rattle.seq.proofs.Lists.{and-left, and-right}
 
 pub row-bytes-fit : (w : ℕ) → (w ≤ 8 * rowBytes w) × (8 * rowBytes w < w + 8)
@@ -26,13 +24,10 @@ area-few a b = mul-le-mul a b
 pub pixels-few : {w h : ℕ} → Sides w h → w * h ≤ maxPixels
 pixels-few s = area-few (s .narrow) (s .short)
 
-pub raster-few : {w h b : ℕ} → Sides w h → b ≡ rowBytes w → b * h ≤ maxPixels
-raster-few {w} {h} {b} s e = area-few (omega (arith, row-bytes-fit w, s .narrow)) (s .short)
-
-pub raster-most : {w h : ℕ} → Sides w h → rowBytes w * h ≤ maxRaster
-raster-most {w} {h} s = rows (omega (arith, row-bytes-fit w, s .narrow)) (s .short)
+pub raster-few : {w h b : ℕ} → Sides w h → b ≡ rowBytes w → b * h ≤ maxRaster
+raster-few {w} {h} {b} s e = rows (omega (arith, row-bytes-fit w, s .narrow)) (s .short)
   where
-    rows : rowBytes w ≤ 32 → h ≤ maxSide → rowBytes w * h ≤ 32 * maxSide
+    rows : b ≤ 32 → h ≤ maxSide → b * h ≤ 32 * maxSide
     rows = mul-le-mul
 
 within-range : (n : ℕ) → within maxSide n ≡ true → (1 ≤ n) × (n ≤ maxSide)

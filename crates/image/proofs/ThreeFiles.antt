@@ -10,10 +10,11 @@
 -- Assumes nothing.
 use mathlib.Core.Bool.{Bool, true, false, not, _&&_}
 use mathlib.Core.List.{List, [], _∷_}
+use mathlib.Core.Logic.{⊎-elim}
 use mathlib.Core.Path.{_≡_, refl, sym, ap, ap₂, _∙_}
 use Prim.Native.Nat.{ℕ, zero, suc, _+_, _-_, _*_, _/_, _%_, _^_, _≤_, _<_, min, max}
 use native.Mathlib.Omega.{arith}
-use borrow.Author.Tests.{eqb-true, not-false}
+use borrow.Author.Tests.{eqb-true, leb-true, leb-false, not-false}
 use lib.Bits.{bitAnd, bitOr}
 use lib.Dec.{leb, eqb}
 use lib.ListN.{length, getD, take, length-drop}
@@ -35,7 +36,7 @@ use Rattle.seq.specs.Lists.{all}
 use Rattle.seq.specs.Tab.{tab, Filled}
 use Rattle.seq.proofs.Bits.{and-digit, or-digit}
 use Rattle.seq.proofs.Grid.{cell-below, grid, grid-ext}
-use Rattle.seq.proofs.Lists.{and-left, and-right}
+use Rattle.seq.proofs.Lists.{and-left, and-right, either}
 use Rattle.seq.proofs.Tab.{length-tab, getD-tab, tab-ext, tab-getD}
 use Rattle.verdict.specs.declared.Refusal.{Refusal}
 use Rattle.verdict.specs.declared.Verdict.{Verdict}
@@ -127,21 +128,8 @@ majority-same a e = tab-ext _ (λ i. getD a i 0) (length a) (λ i l. value (getD
 
 -- a digit of the majority of three bytes
 digits : (x y z : ℕ) → x < 2 → y < 2 → z < 2 → max (max (min x y) (min x z)) (min y z) ≡ majorityAt x y z
-digits zero zero zero p q r = refl
-digits zero zero (suc zero) p q r = refl
-digits zero (suc zero) zero p q r = refl
-digits zero (suc zero) (suc zero) p q r = refl
-digits (suc zero) zero zero p q r = refl
-digits (suc zero) zero (suc zero) p q r = refl
-digits (suc zero) (suc zero) zero p q r = refl
-digits (suc zero) (suc zero) (suc zero) p q r = refl
-digits zero zero (suc (suc z)) p q r = absurd (omega arith)
-digits zero (suc zero) (suc (suc z)) p q r = absurd (omega arith)
-digits zero (suc (suc y)) z p q r = absurd (omega arith)
-digits (suc zero) zero (suc (suc z)) p q r = absurd (omega arith)
-digits (suc zero) (suc zero) (suc (suc z)) p q r = absurd (omega arith)
-digits (suc zero) (suc (suc y)) z p q r = absurd (omega arith)
-digits (suc (suc x)) y z p q r = absurd (omega arith)
+digits x y z p q r =
+    ⊎-elim (λ e. rw e (omega (arith, leb-true 2 (x + y + z) e))) (λ e. rw e (omega (arith, leb-false 2 (x + y + z) e))) (either (leb 2 (x + y + z)))
 
 majority-digit : (x y z n : ℕ) → majorityByte x y z / 2 ^ n % 2 ≡ majorityAt (x / 2 ^ n % 2) (y / 2 ^ n % 2) (z / 2 ^ n % 2)
 majority-digit x y z n =

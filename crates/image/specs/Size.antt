@@ -1,6 +1,6 @@
 -- Sizes of images (01, The sheet). A pixel is 0 or 1, one byte in memory, in row order.
 --     maxSide             the largest width and height of an image
---     maxPixels           the most pixels of an image
+--     maxPixels           the most pixels of an image; maxRaster: the most bytes of its raster in a file
 --     within limit n      a number from 1 to the limit
 --     badSize w h         rule 10
 --     rowBytes w          the bytes of a row of w pixels in a file
@@ -14,6 +14,9 @@ maxSide = 256
 
 abbrev pub maxPixels : ℕ
 maxPixels = maxSide * maxSide
+
+abbrev pub maxRaster : ℕ
+maxRaster = maxPixels / 8
 
 -- a number from 1 to the limit
 unfoldable pub within : ℕ → ℕ → Bool

@@ -10,8 +10,9 @@ ghost use mathlib.Core.Path.{_≡_};
 ghost use Prim.Native.Nat.{_≤_};
 ghost use lib.Dec.{eqb};
 ghost use lib.ListN.{length, take};
-ghost use Rattle.image.specs.Code.Three.{sizeOf, sizeOfThree, maxRaster, lastBytes, majorityByte, majorityBytes};
+ghost use Rattle.image.specs.Code.Three.{sizeOf, sizeOfThree, lastBytes, majorityByte, majorityBytes};
 ghost use Rattle.image.specs.Majority.{majorityRead, majorityArea};
+ghost use Rattle.image.specs.Size.{maxRaster};
 ghost use Rattle.verdict.specs.Writer.{over};
 
 const SECOND: usize = 2;

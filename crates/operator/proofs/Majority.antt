@@ -1,7 +1,7 @@
 -- The majority of three images, proved (specs/Majority).
 --     majority-shows        of three sets of black pixels, those that lie in two of them
 --     majority-image, majority-exchanged, majority-ordered     an image; exchanged; ordered
---     all-majority          the claim
+--     all-majority, all-majority-rest     the claims
 -- Assumes nothing.
 use mathlib.Core.Bool.{Bool, true, false, not}
 use mathlib.Core.List.{List}
@@ -15,7 +15,7 @@ use lib.ListN.{length, getD}
 use Rattle.image.specs.Majority.{majorityAt, majorityOf}
 use Rattle.morph.specs.System.{Image}
 use Rattle.operator.specs.Image.{IsImage, exchange, Below}
-use Rattle.operator.specs.Majority.{AllMajority}
+use Rattle.operator.specs.Majority.{AllMajority, AllMajorityRest}
 use Rattle.operator.specs.Rest.{rested}
 use Rattle.operator.proofs.Image.{Shows, blackOf, image-shows, shows-image, shows-equal, shows-exchange}
 use Rattle.operator.proofs.Rest.{all-rest}
@@ -89,13 +89,17 @@ module _ {w h : ℕ} where
         (omega (arith, p i (rw (ia .sized) k), q i (rw (ib .sized) k), r i (rw (ic .sized) k))))
 
 pub all-majority : AllMajority
-all-majority t w h ok = record {
+all-majority w h = record {
   black = λ a b c ia ib ic i l. two-black a b c (ia .sized) i l;
   image = λ a b c ia ib ic. majority-image ia ib ic;
   exchanged = λ a b c ia ib ic. majority-exchanged ia ib ic;
-  rest-exchanged = λ a b c ia ib ic.
-      ap (rested t w h) (majority-exchanged ia ib ic) ∙ all-rest t w h ok .exchanged (majorityOf a b c) (majority-image ia ib ic);
   ordered = λ a b c a' b' c' ia ib ic ia' ib' ic' p q r. majority-ordered ia ib ic ia' ib' ic' p q r;
-  rest-ordered = λ a b c a' b' c' ia ib ic ia' ib' ic' p q r.
+}
+
+pub all-majority-rest : AllMajorityRest
+all-majority-rest t w h ok = record {
+  exchanged = λ a b c ia ib ic.
+      ap (rested t w h) (majority-exchanged ia ib ic) ∙ all-rest t w h ok .exchanged (majorityOf a b c) (majority-image ia ib ic);
+  ordered = λ a b c a' b' c' ia ib ic ia' ib' ic' p q r.
       all-rest t w h ok .ordered _ _ (majority-image ia ib ic) (majority-image ia' ib' ic') (majority-ordered ia ib ic ia' ib' ic' p q r);
 }

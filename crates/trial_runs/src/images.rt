@@ -1,4 +1,4 @@
-// Generated images: blocks of either colour, some as large as the image, with some pixels turned; and the pool of three of them.
+// Generated images: blocks of either colour, some as large as the image, with some pixels turned; and the majority of three of them.
 use crate::bytes;
 use crate::bytes::AREA;
 use crate::generator;
@@ -28,17 +28,17 @@ fn drawn(seed: u32, size: Size) -> [u8; AREA] {
 }
 
 // Second implementation (02, T-12): a pixel is black when at least two have it black. Into the front of an area.
-pub(crate) fn pool(images: Triple, size: Size, area: &mut [u8]) {
+pub(crate) fn majority(images: Triple, size: Size, area: &mut [u8]) {
     let one = images.one;
     let two = images.two;
     let three = images.three;
     for k in 0..grid::pixels(size) {
-        let value = pooled(bytes::at(&one, k), bytes::at(&two, k), bytes::at(&three, k));
+        let value = majority_of(bytes::at(&one, k), bytes::at(&two, k), bytes::at(&three, k));
         bytes::put(area, k, value);
     }
 }
 
-fn pooled(one: u8, two: u8, three: u8) -> u8 {
+fn majority_of(one: u8, two: u8, three: u8) -> u8 {
     let black = bytes::more(bytes::more(one as usize, two as usize), three as usize);
     (2 <= black) as u8
 }

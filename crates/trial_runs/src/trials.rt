@@ -62,11 +62,11 @@ fn pair(tally: Tally, seed: u32, size: Size) -> Tally {
 }
 
 // The image is that of three files.
-fn pooled(tally: Tally, seed: u32, size: Size) -> Tally {
+fn of_three(tally: Tally, seed: u32, size: Size) -> Tally {
     let table = tables::generated(seed);
     let drawn = images::three(seed, size);
     let mut first = bytes::filled(sides::FIRST);
-    images::pool(drawn, size, &mut first);
+    images::majority(drawn, size, &mut first);
     let begun = library::load_three(sides::start(), table, size, drawn);
     jobs::followed(tally, seed, begun, definition::load(table, size, first))
 }
@@ -83,7 +83,7 @@ pub(crate) fn generated(tally: Tally, seed: u32, wide: usize, high: usize) -> Ta
         };
         let drawn = generator::draw(seed, k as u32);
         if k % 5 == 4 {
-            let made = pooled(next, drawn, size);
+            let made = of_three(next, drawn, size);
             next = made;
         } else {
             let made = pair(next, drawn, size);

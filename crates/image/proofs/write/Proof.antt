@@ -9,7 +9,7 @@ use lib.ListN.{length}
 use Rattle.image.specs.Code.Rows.{Sides}
 use Rattle.image.specs.File.{pixelVerdict}
 use Rattle.image.specs.Header.{header}
-use Rattle.image.specs.Size.{maxPixels, rowBytes}
+use Rattle.image.specs.Size.{maxRaster, rowBytes}
 use Rattle.image.proofs.Decimal.{decimal-short}
 use Rattle.image.proofs.HeaderWritten.{header-length}
 use Rattle.image.proofs.PixelsOf.{PixelsGood, pixels-good}
@@ -37,7 +37,7 @@ both-sides : (c : tie.After-enum-told) → Sides (w c) (h c)
 both-sides c = sides _ _ (good c .size)
 
 -- the raster's bytes are few
-few : (c : tie.After-row-bytes) → c .row-bytes .result * h (c .before .before) ≤ maxPixels
+few : (c : tie.After-row-bytes) → c .row-bytes .result * h (c .before .before) ≤ maxRaster
 few c = raster-few (both-sides (c .before .before)) (c .row-bytes .ensures)
 
 -- the end that the code works out

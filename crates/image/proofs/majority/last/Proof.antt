@@ -1,19 +1,11 @@
 -- `image::majority::last` meets its contract. Assumes nothing.
-use native.Mathlib.Omega.{arith}
+use Prim.Native.Nat.{_-_}
 use borrow.Author.Needs.{needs}
-use mathlib.Core.List.{List}
-use mathlib.Core.Path.{_≡_}
-use Prim.Native.Nat.{ℕ, _-_}
-use lib.ListN.{length, take, length-drop}
-use lib.Seq.{take-all}
+use lib.ListN.{length}
 use Rattle.image.specs.Code.Three.{lastBytes}
+use Rattle.image.proofs.HeaderOf.{rest-part}
 use Rattle.image.proofs.majority.last.Statement.{statement}
 use Rattle.image.proofs.majority.last.Tie as tie
-
--- all that is left past a place
-last-all : (k : ℕ) (f : List ℕ) → take (length f - (length f - k)) (lastBytes k f) ≡ lastBytes k f
-unfolding lastBytes
-last-all k f = let n = length-drop (length f - k) f in take-all (length f - (length f - k)) (lastBytes k f) (omega arith)
 
 sub-result : tie.Need-sub-result
 sub-result c = search needs
@@ -29,7 +21,7 @@ part-result-end c = search needs
 
 returns : tie.Need-returns
 unfolding lastBytes
-returns c = last-all (c .before .args .count) (c .before .args .file .now)
+returns c = rest-part (c .before .args .file .now) (length (c .before .args .file .now) - c .before .args .count)
 
 pub last-spec : {M : Type 1} → statement M
 last-spec = tie.close (tie.spec sub-result sub-result-2 part-result-start part-result-end returns)

@@ -1,11 +1,11 @@
 -- `image::majority::read` meets its contract. Assumes nothing.
-use mathlib.Core.Path.{_≡_, sym, _∙_}
+use mathlib.Core.Path.{_≡_, refl, sym, _∙_}
 use native.Mathlib.Omega.{arith}
 use borrow.Author.Needs.{needs}
 use lib.Seq.{length-take-le}
 use Rattle.image.specs.declared.ImageRead.the-variants.{Size}
 use Rattle.image.specs.Code.Three.{sizeOfThree}
-use Rattle.image.proofs.RowBytes.{raster-few, raster-most}
+use Rattle.image.proofs.RowBytes.{raster-few}
 use Rattle.image.proofs.ThreeFiles.{three-sides, first-ends, second-ends, third-ends, three-counted, three-read, three-refused}
 use Rattle.image.proofs.majority.read.Statement.{statement}
 use Rattle.image.proofs.majority.read.Tie as tie
@@ -36,7 +36,7 @@ combined-requires : tie.Need-combined-requires
 combined-requires c κs =
     let found = size-found (c .before .before) in
     rw (c .row-bytes .ensures)
-    (first-ends _ _ _ found .long, second-ends _ _ _ found .long, third-ends _ _ _ found .long, raster-most (three-sides _ _ _ found))
+    (first-ends _ _ _ found .long, second-ends _ _ _ found .long, third-ends _ _ _ found .long, raster-few (three-sides _ _ _ found) refl)
 
 array-share-prefix-raster : tie.Need-array-share-prefix-raster
 array-share-prefix-raster c = omega (arith, combined-requires (c .before) (c .combined .lifetimes))

@@ -35,8 +35,8 @@ cast-draw c = search needs
 draw-requires : tie.Need-draw-requires Inv-loop μ-loop
 draw-requires c κs = search needs
 
-pooled-requires : tie.Need-pooled-requires Inv-loop μ-loop
-pooled-requires c κs = search needs
+of-three-requires : tie.Need-of-three-requires Inv-loop μ-loop
+of-three-requires c κs = search needs
 
 pair-requires : tie.Need-pair-requires Inv-loop μ-loop
 pair-requires c κs = search needs
@@ -67,7 +67,7 @@ generated-spec =
     more-requires-2
     cast-draw
     draw-requires
-    pooled-requires
+    of-three-requires
     pair-requires
     add-k
     loop-less

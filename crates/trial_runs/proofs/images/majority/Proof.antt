@@ -1,11 +1,11 @@
--- `trial_runs::images::pool` is safe and ends: the index stays within its range.
+-- `trial_runs::images::majority` is safe and ends: the index stays within its range.
 -- Assumes nothing.
 use mathlib.Core.Path.{_≡_}
 use Prim.Native.Nat.{_≤_, _-_}
 use lib.ListN.{length}
 use borrow.Author.Needs.{needs}
-use Rattle.trial_runs.proofs.images.pool.Statement.{statement}
-use Rattle.trial_runs.proofs.images.pool.Tie as tie
+use Rattle.trial_runs.proofs.images.majority.Statement.{statement}
+use Rattle.trial_runs.proofs.images.majority.Tie as tie
 
 abbrev Inv-loop : tie.InvT-loop
 Inv-loop area₀ one two three k₀ k-end area k = (k ≤ k-end) × (length area ≡ length area₀)
@@ -37,8 +37,8 @@ slice-aggregate-at-3 c = search needs
 at-requires-3 : tie.Need-at-requires-3 Inv-loop μ-loop
 at-requires-3 c κs = search needs
 
-pooled-requires : tie.Need-pooled-requires Inv-loop μ-loop
-pooled-requires c κs = search needs
+majority-of-requires : tie.Need-majority-of-requires Inv-loop μ-loop
+majority-of-requires c κs = search needs
 
 put-requires : tie.Need-put-requires Inv-loop μ-loop
 put-requires c κs = search needs
@@ -58,8 +58,8 @@ same-length c = search needs
 returns : tie.Need-returns Inv-loop μ-loop
 returns c = search needs
 
-pub pool-spec : {M : Type 1} → statement M
-pool-spec =
+pub majority-spec : {M : Type 1} → statement M
+majority-spec =
     tie.close
     (tie.spec
     Inv-loop
@@ -72,7 +72,7 @@ pool-spec =
     at-requires-2
     slice-aggregate-at-3
     at-requires-3
-    pooled-requires
+    majority-of-requires
     put-requires
     add-k
     loop-less
