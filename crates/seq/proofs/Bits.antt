@@ -4,7 +4,7 @@
 --     bit-half, bit-shr             the bits of a half, and after a shift to the right
 --     bit-shl, bit-low              the bits after a shift to the left
 --     and-digit, or-digit           a digit of a bitwise and is the lesser of two, of a bitwise or the greater
---     bit-and                       a bit of a bitwise and
+--     bit-and, bit-or, bit-xor      a bit of a bitwise and, or, exclusive or
 --     bit-above                     no bit stands at or above k in a number below 2 ^ k
 --     bits-ext                      numbers below 2 ^ k with the same bits below k are equal
 --     bitsOf-intro, bitsOf-elim     membership in the list of bits
@@ -12,7 +12,7 @@
 --     and-within, within-and        `e and m` is e exactly when every bit of e is one of m
 --     any-and, all-and              some place of e, every place of e is in a set that is given as a mask f
 -- Assumes nothing.
-use mathlib.Core.Bool.{Bool, true, false, not, _&&_}
+use mathlib.Core.Bool.{Bool, true, false, not, _&&_, _||_}
 use mathlib.Core.List.{List·Memᴰ}
 use mathlib.Core.Path.{_≡_, refl, sym, ap, _∙_}
 use Prim.Native.Nat.{ℕ, zero, suc, _+_, _-_, _*_, _/_, _%_, _^_, _≤_, _<_, min, max, zero-le, suc-le-suc}
@@ -20,11 +20,11 @@ use native.Mathlib.Nat.{div-one, div-eq-of-lt, pow-suc, lt-of-lt-of-le, lt-of-le
 use native.Mathlib.Omega.{arith}
 use borrow.Author.Tests.{eq-eqb, ne-eqb, eqb-true, eqb-false, not-true, not-false}
 use lib.Arith.{lt-one}
-use lib.Bits.{bitAnd, bitOr, and-step, or-step, and-shr, or-shr, and-le-l}
+use lib.Bits.{bitAnd, bitOr, bitXor, differ, and-step, or-step, xor-step, and-shr, or-shr, xor-shr, and-le-l}
 use lib.Dec.{eqb}
 use lib.Pow.{pow-pos, pow-mono, pow-add, shr-shr, shl-shr}
 use Rattle.seq.specs.Bits.{bit, bitsOf}
-use Rattle.seq.specs.Lists.{any, all, one}
+use Rattle.seq.specs.Lists.{any, all, one, same}
 use Rattle.seq.specs.Tab.{upTo}
 use Rattle.seq.proofs.Lists.{clash, not-true-false, bool-ext, and-right, and-intro, any-intro, any-elim, all-intro, all-elim, keep-intro, keep-elim}
 use Rattle.seq.proofs.Tab.{upTo-intro, upTo-elim}
@@ -102,6 +102,45 @@ bit-and e f n = ap (λ (d : ℕ). eqb d 1) (and-digit e f n) ∙ both (e / 2 ^ n
     both (suc zero) (suc zero) p q = refl
     both (suc zero) (suc (suc b)) p q = absurd (omega arith)
     both (suc (suc a)) b p q = absurd (omega arith)
+
+pub bit-or : (e f n : ℕ) → bit (bitOr e f) n ≡ (bit e n || bit f n)
+unfolding bit
+bit-or e f n = ap (λ (d : ℕ). eqb d 1) (or-digit e f n) ∙ either-digit (e / 2 ^ n % 2) (f / 2 ^ n % 2) (omega arith) (omega arith)
+  where
+    either-digit : (a b : ℕ) → a < 2 → b < 2 → eqb (max a b) 1 ≡ (eqb a 1 || eqb b 1)
+    either-digit zero zero p q = refl
+    either-digit zero (suc zero) p q = refl
+    either-digit zero (suc (suc b)) p q = absurd (omega arith)
+    either-digit (suc zero) zero p q = refl
+    either-digit (suc zero) (suc zero) p q = refl
+    either-digit (suc zero) (suc (suc b)) p q = absurd (omega arith)
+    either-digit (suc (suc a)) b p q = absurd (omega arith)
+
+pub bit-xor : (e f n : ℕ) → bit (bitXor e f) n ≡ not (same (bit e n) (bit f n))
+unfolding bit
+bit-xor e f n = ap (λ (d : ℕ). eqb d 1) digit ∙ unlike (e / 2 ^ n % 2) (f / 2 ^ n % 2) (omega arith) (omega arith)
+  where
+    digit : bitXor e f / 2 ^ n % 2 ≡ differ (e / 2 ^ n % 2) (f / 2 ^ n % 2)
+    digit =
+        ap (λ (x : ℕ). x % 2) (xor-shr e f n ∙ xor-step (e / 2 ^ n) (f / 2 ^ n)) ∙ omega (arith, small (e / 2 ^ n % 2) (f / 2 ^ n % 2) (omega arith) (omega arith))
+      where
+        small : (a b : ℕ) → a < 2 → b < 2 → differ a b < 2
+        small zero zero p q = omega arith
+        small zero (suc zero) p q = omega arith
+        small zero (suc (suc b)) p q = absurd (omega arith)
+        small (suc zero) zero p q = omega arith
+        small (suc zero) (suc zero) p q = omega arith
+        small (suc zero) (suc (suc b)) p q = absurd (omega arith)
+        small (suc (suc a)) b p q = absurd (omega arith)
+
+    unlike : (a b : ℕ) → a < 2 → b < 2 → eqb (differ a b) 1 ≡ not (same (eqb a 1) (eqb b 1))
+    unlike zero zero p q = refl
+    unlike zero (suc zero) p q = refl
+    unlike zero (suc (suc b)) p q = absurd (omega arith)
+    unlike (suc zero) zero p q = refl
+    unlike (suc zero) (suc zero) p q = refl
+    unlike (suc zero) (suc (suc b)) p q = absurd (omega arith)
+    unlike (suc (suc a)) b p q = absurd (omega arith)
 
 -- a number's parity is its lowest bit
 parity : (e f : ℕ) → bit e 0 ≡ bit f 0 → e % 2 ≡ f % 2

@@ -1,6 +1,7 @@
 -- The laws of tabulation, of the first number that passes a test, and of a list that is filled from the front.
 --     length-tab, getD-tab, tab-suc, tab-ext, tab-getD    a table's length, an element, one more, by elements, of a list's own elements
 --     mem-tab, tab-mem, upTo-intro, upTo-elim             membership in a table and below a bound
+--     upTo-test                                           a computed test holds at each number below a bound
 --     count-upTo                                          one number more is counted
 --     first-at, first-none, first-found, first-nothing    the lowest that passes; none passes; and what each answer says
 --     fill-none, fill-more, fill-length, fill-at, fill-whole     a loop's start, one store, the length, an element on the way, and its end
@@ -16,8 +17,8 @@ use native.Mathlib.Omega.{arith}
 use lib.ListN.{length, getD, drop, set, length-append, length-drop, List·getD-append, drop-of-length-le}
 use lib.Seq.{drop-cons, set-at, append-snoc}
 use Rattle.seq.specs.Tab.{tab, upTo, first, firstOr, Filled}
-use Rattle.seq.specs.Lists.{one, count}
-use Rattle.seq.proofs.Lists.{count-append}
+use Rattle.seq.specs.Lists.{all, one, count}
+use Rattle.seq.proofs.Lists.{all-elim, count-append}
 
 module _ {ℓ} {A : Type ℓ} where
   pub length-tab : (f : ℕ → A) (n : ℕ) → length (tab f n) ≡ n
@@ -94,6 +95,10 @@ upTo-intro h = mem-tab (λ j. j) h
 pub upTo-elim : {k : ℕ} (n : ℕ) → List·Memᴰ k (upTo n) → k < n
 unfolding upTo
 upTo-elim {k} n m = let w = tab-mem (λ j. j) n m in subst (λ (j : ℕ). j < n) (sym (w .2)) (w .1)
+
+-- a test that is computed for all numbers below a bound holds at each of them
+pub upTo-test : (p : ℕ → Bool) (n : ℕ) → all p (upTo n) ≡ true → (k : ℕ) → k < n → p k ≡ true
+upTo-test p n e k l = all-elim p e (upTo-intro l)
 
 pub length-upTo : (n : ℕ) → length (upTo n) ≡ n
 unfolding upTo
