@@ -7,7 +7,7 @@
 -- Assumes nothing.
 use mathlib.Core.Bool.{Bool, true, false}
 use mathlib.Core.List.{List}
-use mathlib.Core.Path.{_≡_, refl, sym, ap, _∙_}
+use mathlib.Core.Path.{_≡_, refl, sym, _∙_}
 use Prim.Native.Nat.{ℕ, _*_, _≤_, _<_}
 use borrow.Author.Tests.{le-ltb, lt-ltb, ltb-false}
 use lib.Dec.{ltb}
@@ -15,22 +15,20 @@ use lib.ListN.{length}
 use Rattle.image.specs.File.{pixelVerdict, areaRule}
 use Rattle.seq.proofs.Lists.{clash}
 use Rattle.table.specs.declared.Table.{Table}
-use Rattle.table.specs.Record.{masks, recordVerdict}
+use Rattle.table.specs.Record.{recordVerdict}
 use Rattle.verdict.specs.declared.Refusal.{Refusal}
 use Rattle.verdict.specs.declared.Verdict.{Verdict}
 use Rattle.verdict.specs.declared.Verdict.the-variants.{Accepted, Refused}
 use Rattle.verdict.specs.Rules.{refusal}
-use Rattle.verdict.specs.Writer.{over}
 use Rattle.verdict.proofs.Rules.{orElse-left, orElse-right, refuseIf-accepted}
 use Rattle.filter.specs.declared.Filtered.{Filtered}
 use Rattle.filter.specs.declared.Filtered.the-variants as filtering
 use Rattle.filter.specs.Applied.{passVerdict, filtered, filteredArea, switched, rangeVerdict, againVerdict, again, againArea, Again, AllAgain, ranged}
+use Rattle.filter.specs.Code.Blocks.{Switched}
 use Rattle.operator.specs.Image.{IsImage}
-use Rattle.filter.specs.Code.OpeningMap.{openMap}
 use Rattle.operator.specs.Pass.{pass}
-use Rattle.filter.specs.Code.Walk.{walked, Counted}
 use Rattle.filter.proofs.PassCodeChecks.{accepted-ranged}
-use Rattle.filter.proofs.PassCodeExact.{walked-switched, steps-added, steps-removed, switched-pass}
+use Rattle.filter.proofs.SwitchedLaws.{switched-pass}
 use Rattle.filter.proofs.PreviewLaws.{checked-image}
 
 module _ (t : Table) (w h : ℕ) (px : List ℕ) (n : ℕ) where
@@ -88,13 +86,9 @@ module _ (t : Table) (w h : ℕ) (px d : List ℕ) where
   unfolding again againArea
   again-refused e = rw e (refl, refl)
 
-  pub again-filled : againVerdict t w h px (length d) ≡ Accepted → {after : List ℕ} {a b : ℕ}
-      → after ≡ over (walked (masks t) w h px (openMap t w h px)) d → Counted (masks t) w h px (openMap t w h px) (w * h) a b → Done (filtering.Counts a b) after
+  pub again-filled : againVerdict t w h px (length d) ≡ Accepted → {after : List ℕ} {a b : ℕ} → Switched t w h px d after a b → Done (filtering.Counts a b) after
   unfolding again againArea
-  again-filled ok e s =
-      let m = fits t w h px (length d) ok .image in
-      rw (ok, s .added ∙ steps-added t w h px m, s .removed ∙ steps-removed t w h px m)
-      (refl, e ∙ ap (λ (l : List ℕ). over l d) (walked-switched t w h px m))
+  again-filled ok s = rw (ok, s .more, s .less) (refl, s .filled)
 
 -- an accepted table is in range, and what it switches is one pass
 module _ (t : Table) (w h : ℕ) (px area : List ℕ) (ok : recordVerdict t ≡ Accepted) where

@@ -1,27 +1,37 @@
 -- What a pass checks before it starts.
 --     ranged-of, ranged-count, ranged-ranks, ranged-valid    the table's ranges
+--     all-stop, all-more, all-end                            the loop over the elements
 --     accepted-ranged            an accepted table is in range
---     elements-part, map-part, map-length    elements and opening map, as parts of longer arrays
+--     elements-part, persistents-part    the masks of a table, as parts of longer arrays
 -- Assumes nothing.
-use mathlib.Core.Bool.{Bool, true, _&&_}
+use mathlib.Core.Bool.{Bool, true, false, _&&_}
 use mathlib.Core.List.{List}
 use mathlib.Core.Path.{_≡_, ap, _∙_}
-use Prim.Native.Nat.{ℕ, _*_, _≤_}
+use Prim.Native.Nat.{ℕ, _+_, _≤_, _<_}
+use native.Mathlib.Numerals.{add-one}
 use borrow.Author.Tests.{leb-true, le-leb}
 use lib.Dec.{leb}
-use lib.ListN.{length, take}
+use lib.ListN.{length, getD, take, drop, drop-of-length-le}
+use lib.Seq.{drop-cons}
 use Rattle.seq.specs.Lists.{all}
 use Rattle.seq.proofs.Lists.{and-left, and-right, and-intro, all-intro}
-use Rattle.seq.proofs.Tab.{length-tab}
 use Rattle.table.specs.declared.Table.{Table}
 use Rattle.table.specs.Mask.{validMask}
-use Rattle.table.specs.Record.{maxElements, maxRanks, masks, recordVerdict}
+use Rattle.table.specs.Record.{maxElements, maxRanks, masks, persistents, recordVerdict}
 use Rattle.verdict.specs.declared.Verdict.the-variants.{Accepted}
-use Rattle.verdict.specs.Writer.{over}
-use Rattle.verdict.proofs.Writer.{take-over}
 use Rattle.filter.specs.Applied.{ranged}
-use Rattle.filter.specs.Code.OpeningMap.{openMap}
 use Rattle.table.proofs.Facts.{accepted-table}
+
+-- a loop that looks for the first mask that is none: what is left decides
+module _ {ℓ} {A : Type ℓ} (p : A → Bool) (l : List A) (i : ℕ) where
+  pub all-stop : (d : A) → i < length l → p (getD l i d) ≡ false → all p (drop i l) ≡ false
+  all-stop d h e = rw (drop-cons l i d, e)
+
+  pub all-more : (d : A) → i < length l → p (getD l i d) ≡ true → all p (drop i l) ≡ all p (drop (i + 1) l)
+  all-more d h e = rw (add-one, drop-cons l i d, e)
+
+  pub all-end : length l ≤ i → all p (drop i l) ≡ true
+  all-end h = ap (all p) (drop-of-length-le l h)
 
 -- the table's ranges, from its counts and its element places
 pub ranged-of : (t : Table) {es : List ℕ} {b : Bool} → t .count ≤ maxElements → t .ranks ≤ maxRanks → es ≡ t .elements → b ≡ all validMask (take (t .count) es) → b ≡ ranged t
@@ -55,10 +65,7 @@ pub elements-part : (t : Table) {es : List ℕ} → es ≡ t .elements → take 
 unfolding masks
 elements-part t e = ap (take (t .count)) e
 
--- the opening map, and the part of an area that it takes
-pub map-length : (t : Table) (w h : ℕ) (img : List ℕ) → length (openMap t w h img) ≡ w * h
-unfolding openMap
-map-length t w h img = length-tab _ (w * h)
-
-pub map-part : (t : Table) (w h : ℕ) (img d : List ℕ) {l : List ℕ} → l ≡ over (openMap t w h img) d → take (w * h) l ≡ openMap t w h img
-map-part t w h img d e = ap (take (w * h)) e ∙ take-over (openMap t w h img) d (w * h) (map-length t w h img)
+-- the persistent elements, as a part of their places
+pub persistents-part : (t : Table) {ks : List ℕ} → ks ≡ t .persistents → take (t .ranks) ks ≡ persistents t
+unfolding persistents
+persistents-part t e = ap (take (t .ranks)) e

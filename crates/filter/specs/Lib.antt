@@ -2,3 +2,4 @@ pub mod Answers
 pub mod Applied
 pub mod Previewed
 pub mod Code
+pub mod Repeated

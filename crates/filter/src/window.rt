@@ -3,14 +3,11 @@ ghost use mathlib.Core.Path.{_≡_};
 ghost use Prim.Native.Nat.{_+_, _*_, _≤_, _<_};
 ghost use lib.ListN.{length, getD};
 ghost use Rattle.operator.specs.Image.{pixel};
-ghost use Rattle.operator.specs.Window.{clamp, siteRow, siteCol, window};
+ghost use Rattle.operator.specs.Window.{clamp, window};
 ghost use Rattle.seq.specs.Tab.{tab};
-ghost use Rattle.table.specs.Mask.{positionCount};
 
 // How far the window reaches from its centre.
 const REACH: usize = 2;
-
-const SIDE: usize = 5;
 
 // The values around (row, col), of pixels or of a map of the same size.
 pub(crate) fn gather(
@@ -30,22 +27,6 @@ pub(crate) fn gather(
         gather_row(values, width, height, row + 3, col),
         gather_row(values, width, height, row + 4, col),
     ]
-}
-
-// The value at one position of the window.
-pub(crate) fn at(
-    values: &[u8],
-    width: usize,
-    height: usize,
-    row: usize,
-    col: usize,
-    position: usize,
-) -> u8
-    requires { ⌜ (row < height) × (col < width) × (width * height ≤ length (now values)) × (position < positionCount) ⌝ }
-    ensures { λ r. ⌜ r ≡ pixel width (now (values .entry)) (siteRow height row position) (siteCol width col position) ⌝ }
-{
-    let start = clamped(row + position / SIDE, height) * width;
-    value(values, width, start, col + position % SIDE)
 }
 
 // Five values of the row two above `row`.

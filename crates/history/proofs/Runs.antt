@@ -1,4 +1,6 @@
 -- A run on any record and areas: passes called singly, up to the first that does not answer "changed".
+--     after, after-ends       what follows a pass, by its answer: nothing where that is not "changed"
+--     either-changed          an answer is "changed", or it is not
 --     run-ends, run-goes      a run by its first pass
 --     run-refused             a run that 14 or 16 ends before it begins
 --     goes-next, goes-ready   the passes of a run but the first; each leaves the record ready
@@ -21,12 +23,17 @@ use Rattle.seq.proofs.Tests.{lt-or-le}
 use Rattle.verdict.specs.declared.Refusal.{Refusal}
 use Rattle.verdict.specs.declared.Verdict.the-variants as verdict
 
--- what follows a run's first pass, by its answer
-abbrev after : Outcome → Outcome → Passed → Outcome
+-- what follows the first of several passes, by its answer
+abbrev pub after : Outcome → Outcome → Passed → Outcome
 after o rest a = elim a [ Changed ↦ rest | Stable ↦ o | Refused r ↦ o ]
 
+pub after-ends : (o rest : Outcome) (a : Passed) → (a ≡ Changed → ⊥) → after o rest a ≡ o
+after-ends o rest Changed h = absurd (h refl)
+after-ends o rest Stable h = refl
+after-ends o rest (Refused r) h = refl
+
 -- an answer is "changed", or it is not
-either-changed : (a : Passed) → (a ≡ Changed) ⊎ (a ≡ Changed → ⊥)
+pub either-changed : (a : Passed) → (a ≡ Changed) ⊎ (a ≡ Changed → ⊥)
 either-changed Changed = inl refl
 either-changed Stable = inr (λ e. let z : _≡_ {A = ℕ} 0 1 = cc in omega arith)
 either-changed (Refused r) = inr (λ e. let z : _≡_ {A = ℕ} 0 1 = cc in omega arith)
@@ -34,12 +41,7 @@ either-changed (Refused r) = inr (λ e. let z : _≡_ {A = ℕ} 0 1 = cc in omeg
 pub run-ends : (n : ℕ) (s : State) → (passOf s .answer ≡ Changed → ⊥) → runFor n s ≡ passOf s
 unfolding runFor
 run-ends zero s h = refl
-run-ends (suc n) s h = by (passOf s .answer) refl
-  where
-    by : (a : Passed) → passOf s .answer ≡ a → runFor (suc n) s ≡ passOf s
-    by Changed e = absurd (h e)
-    by Stable e = ap (after (passOf s) (runFor n (passOf s .state))) e
-    by (Refused r) e = ap (after (passOf s) (runFor n (passOf s .state))) e
+run-ends (suc n) s h = after-ends (passOf s) (runFor n (passOf s .state)) (passOf s .answer) h
 
 pub run-goes : (n : ℕ) (s : State) → passOf s .answer ≡ Changed → runFor (suc n) s ≡ runFor n (passOf s .state)
 unfolding runFor

@@ -1,30 +1,22 @@
 -- The work areas in the code.
---     copied-over                an area that a loop has filled with the bytes of an image
 --     pick-even, pick-odd        the one of two lists that the parity names, by the code's test
 --     image-even, image-odd      the present image, by the code's test
 --     part-length                the length of an area's part
 -- Assumes nothing.
 use mathlib.Core.Bool.{cond}
 use mathlib.Core.List.{List}
-use mathlib.Core.Path.{_≡_, sym, ap, _∙_}
+use mathlib.Core.Path.{_≡_, sym, ap}
 use Prim.Native.Nat.{ℕ, _%_, _≤_}
 use borrow.Author.Tests.{eq-eqb, ne-eqb}
-use lib.ListN.{length, getD, take}
+use lib.ListN.{length, take}
 use lib.Seq.{length-take-le}
 use Rattle.history.specs.State.{State, pixels, even, present, image}
-use Rattle.seq.specs.Tab.{Filled}
-use Rattle.seq.proofs.Tab.{tab-getD}
-use Rattle.verdict.specs.Writer.{over}
-use Rattle.verdict.proofs.Writer.{filled-over}
-
-pub copied-over : (from to to₀ : List ℕ) {i : ℕ} → i ≡ length from → Filled (λ k. getD from k 0) to₀ to i → to ≡ over from to₀
-copied-over from to to₀ e f = filled-over f ∙ ap (λ (l : List ℕ). over l to₀) (rw e (tab-getD from 0))
 
 module _ (n : ℕ) (x y : List ℕ) where
-  pub pick-even : n % 2 ≡ 0 → x ≡ cond (even n) x y
+  pick-even : n % 2 ≡ 0 → x ≡ cond (even n) x y
   pick-even e = rw (eq-eqb (n % 2) 0 e)
 
-  pub pick-odd : (n % 2 ≡ 0 → ⊥) → y ≡ cond (even n) x y
+  pick-odd : (n % 2 ≡ 0 → ⊥) → y ≡ cond (even n) x y
   pick-odd h = rw (ne-eqb (n % 2) 0 h)
 
 pub image-even : (s : State) → s .job .passes % 2 ≡ 0 → take (pixels (s .job)) (s .first) ≡ image s

@@ -1,115 +1,136 @@
--- A pass at stage 1, from the next image and its counts: what the code hands back and leaves is what the definition says.
---     Put s next x y      next was put into the area that does not hold the image
---     counts-small        added and removed are at most the pixels
---     next-fits           the next image fits both areas
---     made-stable, made-refused, made-changed     the three ways that such a pass goes
+-- The filter's passes on a job that is ready and not at rest.
+--     ready-small              few pixels
+--     Repeats s n a b m x y    the filter's answer m and the areas x and y, for at most n passes from the area a to b
+--     Holds s a b              the image stands in the area a; holds-even, holds-odd: in the area that the parity names
+--     fits                     the record's counts with those passes do not wrap
+--     even-sum                 the parity of a sum
+--     made-even, made-odd      record and areas afterwards are those of the passes on the job
 -- Assumes nothing.
-use mathlib.Core.Bool.{Bool, true, false, cond, _&&_, _||_}
+use mathlib.Core.Bool.{Bool, true, false, not}
 use mathlib.Core.List.{List}
-use mathlib.Core.Logic.{⊎-elim}
 use mathlib.Core.Path.{_≡_, refl, sym, ap, _∙_}
-use Prim.Native.Nat.{ℕ, _+_, _≤_}
+use Prim.Native.Nat.{ℕ, _+_, _%_, _≤_}
 use native.Mathlib.Omega.{arith}
-use lib.Dec.{ltb, eqb}
-use lib.ListN.{length, getD}
-use Rattle.operator.specs.Image.{added, removed, differs}
+use borrow.Author.Tests.{eq-eqb, ne-eqb, eqb-true, eqb-false, le-ltb}
+use lib.ListN.{length, take}
+use Rattle.filter.specs.Applied.{passVerdict}
 use Rattle.history.specs.declared.Job.{Job}
-use Rattle.history.specs.declared.Passed.the-variants as passed
-use Rattle.history.specs.Pass.{nextImage, nowAdded, nowRemoved, exceeds, withNext, changedJob, stableJob, changing, passLoaded}
+use Rattle.history.specs.Sound.{Ready}
 use Rattle.history.specs.State.{State, pixels, even, image}
+use Rattle.history.proofs.Ready.{ready-writable}
 use Rattle.image.specs.Size.{maxPixels}
 use Rattle.image.proofs.RowBytes.{pixels-few, sides}
-use Rattle.history.specs.Sound.{Ready}
-use Rattle.job.specs.Code.Ready.{Computed, Made}
-use Rattle.job.proofs.Changes.{quiet, changed}
-use Rattle.history.proofs.Ready.{ready-image, ready-next}
-use Rattle.seq.specs.Tab.{upTo}
-use Rattle.seq.proofs.Lists.{either, count-le}
-use Rattle.seq.proofs.Tab.{length-upTo}
-use Rattle.verdict.specs.Rules.{refusal}
-use Rattle.verdict.specs.Writer.{over}
+use Rattle.job.specs.Code.Passes.{made, allowed, answerOf, concluded, Made}
+use Rattle.job.specs.Core.{stepped}
+use Rattle.job.specs.declared.Stepped.{Stepped}
+use Rattle.filter.specs.declared.Repeated.{Repeated}
+use Rattle.filter.specs.Repeated.{begin, Ended, repeated, answered, firstArea, secondArea}
+use Rattle.job.proofs.Trails.{standing, outcome, standing-image, standing-job, standing-first, standing-second, since-none, turn, followed, follow-made, Within, follow-within}
+use Rattle.seq.specs.Lists.{same}
+use Rattle.verdict.specs.declared.Verdict.the-variants.{Accepted}
 
-abbrev pub Put : State → List ℕ → List ℕ → List ℕ → Type 0
-Put s next x y =
-    (x ≡ cond (even (s .job .passes)) (s .first) (over next (s .first)))
-    × (y ≡ cond (even (s .job .passes)) (over next (s .second)) (s .second))
+pub ready-small : {s : State} → Ready s → pixels (s .job) ≤ maxPixels
+ready-small {s} r = pixels-few (sides (s .job .width) (s .job .height) (r .sized))
 
--- both counts run over the pixels
-added-few : (a b : List ℕ) → added a b ≤ length a
-unfolding added
-added-few a b = rw (length-upTo (length a)) at (count-le (λ i. eqb (getD a i 0) 0 && eqb (getD b i 0) 1) (upTo (length a)))
+-- the filter's passes with the record's table, size and budget
+abbrev ended : Job → ℕ → List ℕ → List ℕ → Ended
+ended j n here there = repeated (j .table) (j .width) (j .height) (allowed j n) here there
 
-removed-few : (a b : List ℕ) → removed a b ≤ length a
-unfolding removed
-removed-few a b = rw (length-upTo (length a)) at (count-le (λ i. eqb (getD a i 0) 1 && eqb (getD b i 0) 0) (upTo (length a)))
+abbrev Repeats : State → ℕ → List ℕ → List ℕ → Repeated → List ℕ → List ℕ → Type 0
+Repeats s n here there m x y =
+    (m ≡ answered (ended (s .job) n here there)) × (x ≡ firstArea (ended (s .job) n here there)) × (y ≡ secondArea (ended (s .job) n here there))
+
+-- the image stands in the area `here`, and `there` has room for the next one
+pub record Holds (s : State) (here there : List ℕ) : Type 0 where
+  same : s ≡ standing (s .job) (begin here there)
+  long : pixels (s .job) ≤ length there
 
 module _ {s : State} (r : Ready s) where
-  pub ready-small : pixels (s .job) ≤ maxPixels
-  ready-small = pixels-few (sides (s .job .width) (s .job .height) (r .sized))
+  pub holds-even : s .job .passes % 2 ≡ 0 → Holds s (s .first) (s .second)
+  holds-even t = record { same = rw (eq-eqb (s .job .passes % 2) 0 t); long = r .second }
 
-module _ {s : State} (r : Ready s) {next : List ℕ} {a d : ℕ} (k : Computed s next a d) where
-  pub counts-small : (a ≤ maxPixels) × (d ≤ maxPixels)
-  counts-small =
-      let p = ready-small r in
-      let n = ready-image r .sized in
-      (omega (arith, k .added, added-few (image s) (nextImage s)), omega (arith, k .removed, removed-few (image s) (nextImage s)))
+  pub holds-odd : (s .job .passes % 2 ≡ 0 → ⊥) → Holds s (s .second) (s .first)
+  holds-odd t = record { same = rw (ne-eqb (s .job .passes % 2) 0 t); long = r .first }
 
-  pub next-fits : (length next ≤ length (s .first)) × (length next ≤ length (s .second))
-  next-fits = let e = ap length (k .image) ∙ ready-next r .sized in (omega (arith, r .first), omega (arith, r .second))
+module _ {s : State} (r : Ready s) (h : s .job .stage ≡ 2 → ⊥) (n : ℕ) {here there : List ℕ} (k : Holds s here there) where
+  accepted : passVerdict (s .job .table) (s .job .width) (s .job .height) (take (pixels (s .job)) here) (length there) ≡ Accepted
+  unfolding passVerdict
+  accepted =
+      let p : image s ≡ take (pixels (s .job)) here = ap image (k .same) ∙ standing-image (s .job) (begin here there) in
+      rw (r .table, sym p, ready-writable r, le-ltb _ _ (k .long))
 
-  -- what was put is what the definition puts
-  put-next : (j : Job) {x y : List ℕ} → Put s next x y → (j ≡ withNext j s .job) × (x ≡ withNext j s .first) × (y ≡ withNext j s .second)
-  unfolding withNext
-  put-next j {x} {y} p =
-      let q : Put s (nextImage s) x y = rw (k .image) at p in
-      ⊎-elim (λ e. rw e (refl, rw e at (q .0), rw e at (q .1))) (λ e. rw e (refl, rw e at (q .0), rw e at (q .1)))
-      (either (even (s .job .passes)))
+  staged : s .job .stage ≡ 1
+  staged = omega (arith, r .begun, r .staged)
 
-  -- the pass's outcome, by the counts
-  differing : (a + d ≡ 0 → ⊥) → differs (image s) (nextImage s) ≡ true
-  differing h = changed (ready-image r) (ready-next r) (λ z. h (rw (k .added, k .removed) z))
+  follows : ended (s .job) n here there ≡ followed (s .job) n n (begin here there)
+  unfolding repeated
+  follows = rw accepted
 
-  pub made-stable : a + d ≡ 0 → {x y : List ℕ} → Put s next x y
-      → Made (passLoaded s) (record { answer = passed.Stable; job = stableJob s }) x y
-  unfolding passLoaded
-  made-stable z {x} {y} p =
-      let same : differs (image s) (nextImage s) ≡ false = quiet (ready-image r) (ready-next r) (rw (k .added, k .removed) at z) in
-      let q = put-next (stableJob s) p in
-      rw same (ap (λ (j : Job). record { answer = passed.Stable; job = j }) (q .0), q .1, q .2)
+  made-ended : made n s ≡ outcome (s .job) (ended (s .job) n here there)
+  made-ended =
+      ap (made n) (k .same ∙ ap (λ (j : Job). standing j (begin here there)) (sym (since-none (s .job) here there)))
+      ∙ follow-made (s .job) n staged (r .passes) (r .counts) n (begin here there)
+      ∙ ap (outcome (s .job)) (sym follows)
 
-  now-counts : (s .job .added + a ≡ nowAdded s) × (s .job .removed + d ≡ nowRemoved s)
-  unfolding nowAdded nowRemoved
-  now-counts = (ap (λ (n : ℕ). s .job .added + n) (k .added), ap (λ (n : ℕ). s .job .removed + n) (k .removed))
+  within : Within (allowed (s .job) n) (followed (s .job) n n (begin here there) .trail)
+  within = follow-within _ _ _ (allowed (s .job) n) n (begin here there) (record { passes = omega arith; counts = omega arith })
 
-  -- the code's test of 14's pass clause
-  abbrev pub clause : Bool
-  clause = ltb (pixels (s .job)) (s .job .passes + 1) || ltb (pixels (s .job)) (s .job .added + a + (s .job .removed + d))
+  -- the counts with those passes are still small
+  pub fits : {m : Repeated} → m ≡ answered (ended (s .job) n here there)
+      → (s .job .passes + m .passes ≤ maxPixels) × (s .job .added + m .added ≤ maxPixels) × (s .job .removed + m .removed ≤ maxPixels)
+  fits p =
+      let few = ready-small r in
+      let w = within in
+      rw (p, follows) (omega (arith, r .passes, w .passes), omega (arith, r .counts, w .counts), omega (arith, r .counts, w .counts))
 
-  clause-exceeds : clause ≡ exceeds s
-  unfolding exceeds
-  clause-exceeds = rw (now-counts .0, now-counts .1)
+even-sum : (p n : ℕ) → even (p + n) ≡ same (even p) (even n)
+even-sum p n = by (even p) refl (even n) refl
+  where
+    by : (a : Bool) → even p ≡ a → (b : Bool) → even n ≡ b → even (p + n) ≡ same a b
+    by true e true f = let x = eqb-true (p % 2) 0 e in let y = eqb-true (n % 2) 0 f in eq-eqb ((p + n) % 2) 0 (omega arith)
+    by true e false f = let x = eqb-true (p % 2) 0 e in let y = eqb-false (n % 2) 0 f in ne-eqb ((p + n) % 2) 0 (omega arith)
+    by false e true f = let x = eqb-false (p % 2) 0 e in let y = eqb-true (n % 2) 0 f in ne-eqb ((p + n) % 2) 0 (omega arith)
+    by false e false f = let x = eqb-false (p % 2) 0 e in let y = eqb-false (n % 2) 0 f in eq-eqb ((p + n) % 2) 0 (omega arith)
 
-  pub made-refused : (a + d ≡ 0 → ⊥) → {t : Bool} → t ≡ clause → t ≡ true
-      → Made (passLoaded s) (record { answer = passed.Refused (refusal 14 0); job = s .job }) (s .first) (s .second)
-  unfolding passLoaded changing
-  made-refused h e f = rw (differing h, sym clause-exceeds ∙ sym e ∙ f) (refl, refl, refl)
+-- so the filter's first area is the job's where the passes before were even, else the job's second
+module _ (j : Job) (e : Ended) where
+  abbrev afterwards : State
+  afterwards = outcome j e .state
 
-  pub made-changed : (a + d ≡ 0 → ⊥) → {t : Bool} → t ≡ clause → t ≡ false → {x y : List ℕ} → Put s next x y
-      → Made (passLoaded s)
-      (record {
-        answer = passed.Changed;
-        job = record {
-          stage = 1;
-          width = s .job .width;
-          height = s .job .height;
-          passes = s .job .passes + 1;
-          added = s .job .added + a;
-          removed = s .job .removed + d;
-          table = s .job .table;
-        };
-      }) x y
-  unfolding passLoaded changing changedJob
-  made-changed h e f {x} {y} p =
-      let q = put-next (changedJob s) p in
-      rw (differing h, sym clause-exceeds ∙ sym e ∙ f, now-counts .0, now-counts .1)
-      (ap (λ (j : Job). record { answer = passed.Changed; job = j }) (q .0), q .1, q .2)
+  abbrev stood : Job
+  stood = concluded j (answered e) .job
+
+  areas-even : even (j .passes) ≡ true → (firstArea e ≡ afterwards .first) × (secondArea e ≡ afterwards .second)
+  unfolding firstArea secondArea
+  areas-even t =
+      let q : even (j .passes + e .trail .passes) ≡ even (e .trail .passes) = even-sum (j .passes) (e .trail .passes) ∙ rw t in
+      (rw (standing-first stood (e .trail), q), rw (standing-second stood (e .trail), q))
+
+  areas-odd : even (j .passes) ≡ false → (secondArea e ≡ afterwards .first) × (firstArea e ≡ afterwards .second)
+  unfolding firstArea secondArea
+  areas-odd t =
+      let q : even (j .passes + e .trail .passes) ≡ not (even (e .trail .passes)) = even-sum (j .passes) (e .trail .passes) ∙ rw t in
+      let b = even (e .trail .passes) in (
+        rw (standing-first stood (e .trail), q) (turn b (e .trail .there) (e .trail .here)),
+        rw (standing-second stood (e .trail), q) (turn b (e .trail .here) (e .trail .there)),
+      )
+
+module _ {s : State} (r : Ready s) (h : s .job .stage ≡ 2 → ⊥) (n : ℕ) {m : Repeated} {o : Stepped} (c : o ≡ concluded (s .job) m) where
+  -- answer and record, whichever area the image stood in
+  record-is : {here there : List ℕ} → Holds s here there → m ≡ answered (ended (s .job) n here there) → o ≡ stepped (made n s)
+  record-is {here} {there} k p =
+      let e = ended (s .job) n here there in
+      c ∙ ap (concluded (s .job)) p ∙ ap (λ (j : Job). record { answer = answerOf (e .end); job = j }) (sym (standing-job (stood (s .job) e) (e .trail)))
+      ∙ ap stepped (sym (made-ended r h n k))
+
+  pub made-even : s .job .passes % 2 ≡ 0 → {x y : List ℕ} → Repeats s n (s .first) (s .second) m x y → Made (made n s) o x y
+  made-even t f =
+      let k = holds-even r t in
+      let a = areas-even (s .job) (ended (s .job) n (s .first) (s .second)) (eq-eqb (s .job .passes % 2) 0 t) in
+      (record-is k (f .0), rw (made-ended r h n k) (f .1 ∙ a .0), rw (made-ended r h n k) (f .2 ∙ a .1))
+
+  pub made-odd : (s .job .passes % 2 ≡ 0 → ⊥) → {x y : List ℕ} → Repeats s n (s .second) (s .first) m y x → Made (made n s) o x y
+  made-odd t f =
+      let k = holds-odd r t in
+      let a = areas-odd (s .job) (ended (s .job) n (s .second) (s .first)) (ne-eqb (s .job .passes % 2) 0 t) in
+      (record-is k (f .0), rw (made-ended r h n k) (f .2 ∙ a .0), rw (made-ended r h n k) (f .1 ∙ a .1))

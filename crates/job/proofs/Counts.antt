@@ -1,10 +1,9 @@
 -- Counts against a limit, without a sum that could wrap.
 --     ltb-sub                 a sum is above a limit exactly when one part is above what the other leaves
---     reached, not-reached    one more than a number that has reached the limit, or has not
 -- Assumes nothing.
-use mathlib.Core.Bool.{Bool, true, false, _||_}
+use mathlib.Core.Bool.{Bool, true, false}
 use mathlib.Core.Path.{_≡_, refl}
-use Prim.Native.Nat.{ℕ, _+_, _-_, _≤_, _<_}
+use Prim.Native.Nat.{ℕ, _+_, _-_, _≤_}
 use native.Mathlib.Omega.{arith}
 use borrow.Author.Tests.{ltb-true, ltb-false, lt-ltb, le-ltb}
 use lib.Dec.{ltb}
@@ -15,10 +14,3 @@ ltb-sub n a b h = step (ltb n (a + b)) refl
     step : (t : Bool) → ltb n (a + b) ≡ t → ltb (n - a) b ≡ t
     step true e = lt-ltb (n - a) b (omega (arith, ltb-true n (a + b) e))
     step false e = le-ltb (n - a) b (omega (arith, ltb-false n (a + b) e))
-
-module _ (n m : ℕ) (t : Bool) where
-  pub reached : n ≤ m → true ≡ (ltb n (m + 1) || t)
-  reached h = rw (lt-ltb n (m + 1) (omega arith))
-
-  pub not-reached : m < n → t ≡ (ltb n (m + 1) || t)
-  not-reached h = rw (le-ltb n (m + 1) (omega arith))

@@ -2,10 +2,9 @@ pub mod Seen
 pub mod Counts
 pub mod Areas
 pub mod Inconsistent
-pub mod Changes
-pub mod Concluded
-pub mod Filtered
 pub mod Runs
+pub mod Trails
+pub mod Concluded
 pub mod Balance
 pub mod Black
 pub mod Views

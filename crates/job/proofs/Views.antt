@@ -9,9 +9,7 @@ use mathlib.Core.List.{List, []}
 use mathlib.Core.Path.{_≡_, refl, ap, _∙_}
 use Prim.Native.Nat.{ℕ, _≤_}
 use native.Mathlib.Omega.{arith}
-use lib.Dec.{eqb}
 use lib.IntN.{ℤ, subℕ}
-use lib.ListN.{length}
 use Rattle.operator.specs.Image.{black}
 use Rattle.history.specs.Call.{view, figures, stateOf}
 use Rattle.history.specs.declared.Figured.{Figured}
@@ -21,8 +19,8 @@ use Rattle.history.specs.View.{viewOf, cover, figuresOf}
 use Rattle.history.specs.Sound.{Ready}
 use Rattle.history.proofs.Ready.{ready-image}
 use Rattle.image.specs.Size.{maxPixels}
+use Rattle.job.proofs.Black.{black-few}
 use Rattle.job.proofs.Concluded.{ready-small}
-use Rattle.seq.proofs.Lists.{count-le}
 use Rattle.verdict.specs.declared.Refusal.{Refusal}
 use Rattle.verdict.specs.declared.Verdict.the-variants.{Accepted, Refused}
 
@@ -53,10 +51,6 @@ module _ (s : State) where
 
 pub black-of : {px qx : List ℕ} {n : ℕ} → px ≡ qx → n ≡ black px → n ≡ black qx
 black-of e p = p ∙ ap black e
-
-black-few : (px : List ℕ) → black px ≤ length px
-unfolding black
-black-few px = count-le (λ v. eqb v 1) px
 
 pub few-black : {s : State} → Ready s → {n : ℕ} → n ≡ black (image s) → n ≤ maxPixels
 few-black {s} r e = omega (arith, black-few (image s), ready-image r .sized, ready-small r)

@@ -1,2 +1,2 @@
 -- What the private functions of the crate promise one another. A reader of the claims does not need it.
-pub mod Ready
+pub mod Passes

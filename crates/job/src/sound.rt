@@ -112,7 +112,7 @@ fn any_above_one(bytes: &[u8]) -> bool
 }
 
 // added + removed is above the limit, without a sum that could wrap.
-pub(crate) fn is_sum_above(limit: usize, added: usize, removed: usize) -> bool
+fn is_sum_above(limit: usize, added: usize, removed: usize) -> bool
     ensures { λ r. ⌜ r ≡ ltb limit (added + removed) ⌝ }
 {
     if limit < added {

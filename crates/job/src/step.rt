@@ -1,124 +1,81 @@
-// One pass at stage 1 (01, The job): computed first, and written only where 14's pass clause does not hold.
+// Passes at stage 1 (01, The job). The filter makes them over both areas, and only where 14's pass clause does not hold.
 use crate::Stepped;
-use crate::area;
 use crate::sound;
-use filter::Filtered;
+use filter::Budget;
+use filter::End;
+use filter::Repeated;
+use filter::apply;
 use history::Job;
 use history::Passed;
-use image::size::MAX_PIXELS;
-ghost use mathlib.Core.Bool.{_||_};
 ghost use mathlib.Core.Path.{_≡_};
-ghost use Prim.Native.Nat.{_+_};
-ghost use lib.Dec.{ltb};
-ghost use Rattle.history.specs.Pass.{passLoaded};
-ghost use Rattle.history.specs.Run.{runOf};
-ghost use Rattle.job.specs.Core.{at};
+ghost use Prim.Native.Nat.{_+_, _≤_};
 ghost use Rattle.history.specs.Sound.{Ready};
-ghost use Rattle.job.specs.Code.Ready.{Computed, Made};
+ghost use Rattle.history.specs.State.{pixels};
+ghost use Rattle.image.specs.Size.{maxPixels};
+ghost use Rattle.job.specs.Core.{at};
+ghost use Rattle.job.specs.Code.Passes.{made, allowed, concluded, Made};
 
-// Passes until one does not answer "changed". A changing pass leaves the record sound, so none is checked again.
-pub(crate) fn repeat(job: Job, first: &mut [u8], second: &mut [u8]) -> Stepped
+// At most `limit` passes that change pixels, from the area that holds the image.
+pub(crate) fn advance(job: Job, limit: usize, first: &mut [u8], second: &mut [u8]) -> Stepped
     requires { ⌜ Ready (at job (now first) (now second)) × (job .stage ≡ 2 → ⊥) ⌝ }
-    ensures { λ r. ⌜ Made (runOf (at job (now (first .entry)) (now (second .entry)))) r (now (first .exit)) (now (second .exit)) ⌝ }
-{
-    let mut current = job;
-    loop {
-        let made = advance(current, first, second);
-        let answer = made.answer;
-        if let Passed::Changed = answer {
-            let next = made.job;
-            current = next;
-        } else {
-            return made;
-        }
-    }
-}
-
-// One pass from the area that holds the image to the other one.
-pub(crate) fn advance(job: Job, first: &mut [u8], second: &mut [u8]) -> Stepped
-    requires { ⌜ Ready (at job (now first) (now second)) ⌝ }
-    ensures { λ r. ⌜ Made (passLoaded (at job (now (first .entry)) (now (second .entry)))) r (now (first .exit)) (now (second .exit)) ⌝ }
+    ensures { λ r. ⌜ Made (made limit (at job (now (first .entry)) (now (second .entry)))) r (now (first .exit)) (now (second .exit)) ⌝ }
 {
     let table = job.table;
+    let width = job.width;
+    let height = job.height;
+    let budget = allow(job, limit);
+    if job.passes % 2 == 0 {
+        let repeated = apply::repeat(table, width, height, budget, first, second);
+        conclude(job, repeated)
+    } else {
+        let repeated = apply::repeat(table, width, height, budget, second, first);
+        conclude(job, repeated)
+    }
+}
+
+// What 14's pass clause leaves: passes, and pixels that they change, up to the pixels of the image.
+fn allow(job: Job, limit: usize) -> Budget
+    requires { ⌜ (pixels job ≤ maxPixels) × (job .passes ≤ pixels job) × (job .added + job .removed ≤ pixels job) ⌝ }
+    ensures { λ r. ⌜ r ≡ allowed job limit ⌝ }
+{
     let pixels = job.width * job.height;
-    let mut next = blank();
-    let made = filter::apply::again(
-        table,
-        job.width,
-        job.height,
-        area::image(job, first, second),
-        &mut next,
-    );
-    match made {
-        Filtered::Counts { added, removed } => conclude(
-            job,
-            &next[..pixels],
-            added,
-            removed,
-            first,
-            second,
-        ),
+    Budget {
+        limit,
+        most: pixels - job.passes,
+        room: pixels - (job.added + job.removed),
+    }
+}
+
+// The record after the filter's passes: only rest alters the stage.
+fn conclude(job: Job, repeated: Repeated) -> Stepped
+    requires { ⌜ (job .passes + repeated .passes ≤ maxPixels) × (job .added + repeated .added ≤ maxPixels) × (job .removed + repeated .removed ≤ maxPixels) ⌝ }
+    ensures { λ r. ⌜ r ≡ concluded job repeated ⌝ }
+{
+    let mut after = job;
+    after.passes = job.passes + repeated.passes;
+    after.added = job.added + repeated.added;
+    after.removed = job.removed + repeated.removed;
+    let end = repeated.end;
+    match end {
+        End::Stable => {
+            after.stage = sound::STABLE;
+            Stepped {
+                answer: Passed::Stable,
+                job: after,
+            }
+        }
+        End::Limit => Stepped {
+            answer: Passed::Changed,
+            job: after,
+        },
+        End::Full => Stepped {
+            answer: Passed::Refused(verdict::refusal_of(verdict::UNSOUND, 0)),
+            job: after,
+        },
         // Never so: a sound record's size and areas fit.
-        Filtered::Refused(refusal) => Stepped {
+        End::Refused(refusal) => Stepped {
             answer: Passed::Refused(refusal),
-            job,
+            job: after,
         },
     }
-}
-
-// Room for the largest image.
-fn blank() -> [u8; MAX_PIXELS] {
-    [0u8; MAX_PIXELS]
-}
-
-// The record and the areas after a pass, from the next image and its counts.
-fn conclude(
-    job: Job,
-    next: &[u8],
-    added: usize,
-    removed: usize,
-    first: &mut [u8],
-    second: &mut [u8],
-) -> Stepped
-    requires { ⌜ Ready (at job (now first) (now second)) × Computed (at job (now first) (now second)) (now next) added removed ⌝ }
-    ensures { λ r. ⌜ Made (passLoaded (at job (now (first .entry)) (now (second .entry)))) r (now (first .exit)) (now (second .exit)) ⌝ }
-{
-    let passes = job.passes;
-    if added + removed == 0 {
-        area::put(passes, next, first, second);
-        let mut stable = job;
-        stable.stage = sound::STABLE;
-        return Stepped {
-            answer: Passed::Stable,
-            job: stable,
-        };
-    }
-    let added = job.added + added;
-    let removed = job.removed + removed;
-    if exceeds(job.width * job.height, passes, added, removed) {
-        return Stepped {
-            answer: Passed::Refused(verdict::refusal_of(verdict::UNSOUND, 0)),
-            job,
-        };
-    }
-    area::put(passes, next, first, second);
-    let mut changed = job;
-    changed.stage = sound::LOADED;
-    changed.passes = passes + 1;
-    changed.added = added;
-    changed.removed = removed;
-    Stepped {
-        answer: Passed::Changed,
-        job: changed,
-    }
-}
-
-// 14's pass clause: one pass more, or the new added + removed, is above the pixels.
-fn exceeds(pixels: usize, passes: usize, added: usize, removed: usize) -> bool
-    ensures { λ r. ⌜ r ≡ (ltb pixels (passes + 1) || ltb pixels (added + removed)) ⌝ }
-{
-    if pixels <= passes {
-        return true;
-    }
-    sound::is_sum_above(pixels, added, removed)
 }

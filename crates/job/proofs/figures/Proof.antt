@@ -1,10 +1,10 @@
--- `job::figures`: on a sound record the counts are small, and there is a pixel.
+-- `job::figures`: on a sound record the counts are small, each pixel is 0 or 1, and there is one.
 -- Assumes nothing.
 use mathlib.Core.Path.{sym, _∙_}
 use native.Mathlib.Omega.{arith}
 use borrow.Author.Needs.{needs}
 use Rattle.job.proofs.Balance.{balance-stored}
-use Rattle.history.proofs.Ready.{accepted-ready, ready-some}
+use Rattle.history.proofs.Ready.{accepted-ready, ready-image, ready-some}
 use Rattle.job.proofs.Concluded.{ready-small}
 use Rattle.job.proofs.Views.{figures-refused, figures-shown, black-of, few-black}
 use Rattle.job.proofs.figures.Statement.{statement}
@@ -28,7 +28,10 @@ image-requires c κs =
     (ready .first, ready .second)
 
 black-requires : tie.Need-black-requires
-black-requires c κs = tt
+black-requires c κs =
+    let told = c .before in
+    let ready = accepted-ready _ (sym (told .before .before .ready .ensures) ∙ told .enum-told .given .1) in
+    rw (c .image .ensures) (ready-image ready .binary)
 
 balance-requires : tie.Need-balance-requires
 balance-requires c κs =

@@ -4,6 +4,7 @@ use mathlib.Core.Path.{refl, sym, _∙_}
 use borrow.Author.Needs.{needs}
 use Rattle.history.proofs.Passes.{pass-refused, pass-stable, pass-loaded}
 use Rattle.history.proofs.Ready.{accepted-ready}
+use Rattle.job.proofs.Runs.{made-one}
 use Rattle.job.proofs.pass_core.Statement.{statement}
 use Rattle.job.proofs.pass_core.Tie as tie
 
@@ -39,8 +40,9 @@ returns-2 c =
 
 advance-requires : tie.Need-advance-requires
 advance-requires c κs =
-    let told = c .before .before .before .before in
-    accepted-ready _ (sym (told .before .before .ready .ensures) ∙ told .enum-told .given .1)
+    let test = c .before .before in
+    let told = test .before .before in
+    (accepted-ready _ (sym (told .before .before .ready .ensures) ∙ told .enum-told .given .1), test .if1 .left)
 
 same-length-5 : tie.Need-same-length-5
 same-length-5 c = search needs
@@ -53,7 +55,8 @@ returns-3 c =
     let step = c .before .before .before .before in
     let test = step .before .before .before in
     let told = test .before .before in
-    rw (pass-loaded _ (sym (told .before .before .ready .ensures) ∙ told .enum-told .given .1) (test .if1 .left)) (step .advance .ensures)
+    rw (pass-loaded _ (sym (told .before .before .ready .ensures) ∙ told .enum-told .given .1) (test .if1 .left))
+    (rw made-one at (step .advance .ensures))
 
 pub pass-core-spec : {M : Type 1} → statement M
 pass-core-spec =

@@ -1,10 +1,12 @@
 -- `job::run_core`: 14 and 16, stage 2, then the passes.
 -- Assumes nothing.
 use mathlib.Core.Path.{refl, sym, _∙_}
+use native.Mathlib.Omega.{arith}
 use borrow.Author.Needs.{needs}
 use Rattle.history.proofs.Runs.{run-refused}
-use Rattle.job.proofs.Runs.{run-stable}
 use Rattle.history.proofs.Ready.{accepted-ready}
+use Rattle.job.proofs.Concluded.{ready-small}
+use Rattle.job.proofs.Runs.{run-stable, made-run}
 use Rattle.job.proofs.run_core.Statement.{statement}
 use Rattle.job.proofs.run_core.Tie as tie
 
@@ -38,9 +40,19 @@ returns-2 c =
     let told = c .before .before in
     rw (run-stable _ (sym (told .before .before .ready .ensures) ∙ told .enum-told .given .1) (c .if1 .taken)) (refl, refl, refl)
 
-repeat-requires : tie.Need-repeat-requires
-repeat-requires c κs =
-    let test = c .before .before in
+mul-limit : tie.Need-mul-limit
+mul-limit c =
+    let told = c .before .before .before in
+    omega (arith, ready-small (accepted-ready _ (sym (told .before .before .ready .ensures) ∙ told .enum-told .given .1)))
+
+add-limit : tie.Need-add-limit
+add-limit c =
+    let told = c .before .before .before in
+    omega (arith, ready-small (accepted-ready _ (sym (told .before .before .ready .ensures) ∙ told .enum-told .given .1)))
+
+advance-requires : tie.Need-advance-requires
+advance-requires c κs =
+    let test = c .before .before .before in
     let told = test .before .before in
     (accepted-ready _ (sym (told .before .before .ready .ensures) ∙ told .enum-told .given .1), test .if1 .left)
 
@@ -51,7 +63,12 @@ same-length-6 : tie.Need-same-length-6
 same-length-6 c = search needs
 
 returns-3 : tie.Need-returns-3
-returns-3 c = c .before .before .before .before .repeat .ensures
+returns-3 c =
+    let step = c .before .before .before .before in
+    let test = step .before .before .before .before in
+    let told = test .before .before in
+    let ready = accepted-ready _ (sym (told .before .before .ready .ensures) ∙ told .enum-told .given .1) in
+    rw (made-run _ ready (test .if1 .left)) at (step .advance .ensures)
 
 pub run-core-spec : {M : Type 1} → statement M
 run-core-spec =
@@ -66,7 +83,9 @@ run-core-spec =
     same-length-3
     same-length-4
     returns-2
-    repeat-requires
+    mul-limit
+    add-limit
+    advance-requires
     same-length-5
     same-length-6
     returns-3)

@@ -1,4 +1,4 @@
--- `filter::apply::again` meets its contract: what is refused, then the walk by the opening map. Assumes nothing.
+-- `filter::apply::again` meets its contract: what is refused, then the pass by packed planes. Assumes nothing.
 use mathlib.Core.Path.{_≡_, sym, _∙_}
 use borrow.Author.Needs.{needs}
 use lib.ListN.{length}
@@ -43,7 +43,7 @@ same-length c = search needs
 returns-2 : tie.Need-returns-2
 returns-2 c =
     let done = c .before .before in
-    again-filled _ _ _ _ _ (accepted (done .before .before)) (done .filtered .ensures .0) (done .filtered .ensures .1)
+    again-filled _ _ _ _ _ (accepted (done .before .before)) (done .filtered .ensures)
 
 pub again-spec : {M : Type 1} → statement M
 again-spec =

@@ -6,7 +6,7 @@ use borrow.Author.Tests.{not-true, not-false}
 use lib.ListN.{length, drop}
 use Rattle.seq.specs.Lists.{all}
 use Rattle.table.specs.Mask.{validMask}
-use Rattle.filter.proofs.ElementsLaws.{all-stop, all-more, all-end}
+use Rattle.filter.proofs.PassCodeChecks.{all-stop, all-more, all-end}
 use Rattle.filter.proofs.apply.are_valid.Statement.{statement}
 use Rattle.filter.proofs.apply.are_valid.Tie as tie
 

@@ -1,95 +1,72 @@
-use Rattle.filter.proofs.ElementsLaws.{mask-bits}
+-- `elements::mask_of` meets its contract. Assumes nothing.
 use borrow.Author.Needs.{needs}
+use Rattle.filter.proofs.ElementsLaws.{mask-bits}
 use Rattle.filter.proofs.elements.mask_of.Statement.{statement}
 use Rattle.filter.proofs.elements.mask_of.Tie as tie
-use Rattle.filter.proofs.elements.mask_of.Reads as reads
-use Rattle.filter.proofs.elements.mask_of.Lts as lts
-use Rattle.filter.proofs.elements.row_mask.Reads as row-mask-reads
 
--- src/elements.rt:48:24
 array-copy-out-row-mask : tie.Need-array-copy-out-row-mask
 array-copy-out-row-mask c = search needs
 
--- src/elements.rt:48:15
 row-mask-requires : tie.Need-row-mask-requires
 row-mask-requires c κs = search needs
 
--- src/elements.rt:48:57
 array-copy-out-row-mask-2 : tie.Need-array-copy-out-row-mask-2
 array-copy-out-row-mask-2 c = search needs
 
--- src/elements.rt:48:48
 row-mask-requires-2 : tie.Need-row-mask-requires-2
 row-mask-requires-2 c κs = search needs
 
--- src/elements.rt:48:42
-mul-low : tie.Need-mul-low
-mul-low c = search needs
+mul-m : tie.Need-mul-m
+mul-m c = search needs
 
--- src/elements.rt:48:15
-add-low : tie.Need-add-low
-add-low c = search needs
+add-m : tie.Need-add-m
+add-m c = search needs
 
--- src/elements.rt:49:27
 array-copy-out-row-mask-3 : tie.Need-array-copy-out-row-mask-3
 array-copy-out-row-mask-3 c = search needs
 
--- src/elements.rt:49:9
 row-mask-requires-3 : tie.Need-row-mask-requires-3
 row-mask-requires-3 c κs = search needs
 
--- src/elements.rt:50:25
+mul-m-2 : tie.Need-mul-m-2
+mul-m-2 c = search needs
+
+add-m-2 : tie.Need-add-m-2
+add-m-2 c = search needs
+
 array-copy-out-row-mask-4 : tie.Need-array-copy-out-row-mask-4
 array-copy-out-row-mask-4 c = search needs
 
--- src/elements.rt:50:16
 row-mask-requires-4 : tie.Need-row-mask-requires-4
 row-mask-requires-4 c κs = search needs
 
--- src/elements.rt:50:58
+mul-m-3 : tie.Need-mul-m-3
+mul-m-3 c = search needs
+
+add-m-3 : tie.Need-add-m-3
+add-m-3 c = search needs
+
 array-copy-out-row-mask-5 : tie.Need-array-copy-out-row-mask-5
 array-copy-out-row-mask-5 c = search needs
 
--- src/elements.rt:50:49
 row-mask-requires-5 : tie.Need-row-mask-requires-5
 row-mask-requires-5 c κs = search needs
 
--- src/elements.rt:50:43
-mul-high : tie.Need-mul-high
-mul-high c = search needs
+mul-m-4 : tie.Need-mul-m-4
+mul-m-4 c = search needs
 
--- src/elements.rt:50:16
-add-high : tie.Need-add-high
-add-high c = search needs
+add-m-4 : tie.Need-add-m-4
+add-m-4 c = search needs
 
--- src/elements.rt:51:11
-mul-result : tie.Need-mul-result
-mul-result c = search needs
+cast-result : tie.Need-cast-result
+cast-result c = search needs
 
--- src/elements.rt:51:33
-mul-result-2 : tie.Need-mul-result-2
-mul-result-2 c = search needs
-
--- src/elements.rt:51:24
-add-result : tie.Need-add-result
-add-result c = search needs
-
--- src/elements.rt:51:11
-mul-result-3 : tie.Need-mul-result-3
-mul-result-3 c = search needs
-
--- src/elements.rt:51:5
-add-result-2 : tie.Need-add-result-2
-add-result-2 c = search needs
-
--- src/elements.rt:45:1
 returns : tie.Need-returns
 returns c =
-    let a = c .before .before .before .before .before .before .before .before .before .before .args in
-    mask-bits (a .t1) (a .wanted)
-    (c .before .before .before .before .before .before .before .before .row-mask .ensures .0)
-    (c .before .before .before .before .before .before .row-mask2 .ensures .0)
-    (c .before .before .before .before .row-mask3 .ensures .0)
+    let d = c .before .before .before .before in
+    let e = d .before .before .before .before in
+    let a = e .before .before .args in
+    mask-bits (a .t1) (a .value) (e .row-mask .ensures .0) (d .before .before .row-mask2 .ensures .0) (d .row-mask3 .ensures .0)
     (c .before .before .row-mask4 .ensures .0)
     (c .row-mask5 .ensures .0)
 
@@ -101,19 +78,19 @@ mask-of-spec =
     row-mask-requires
     array-copy-out-row-mask-2
     row-mask-requires-2
-    mul-low
-    add-low
+    mul-m
+    add-m
     array-copy-out-row-mask-3
     row-mask-requires-3
+    mul-m-2
+    add-m-2
     array-copy-out-row-mask-4
     row-mask-requires-4
+    mul-m-3
+    add-m-3
     array-copy-out-row-mask-5
     row-mask-requires-5
-    mul-high
-    add-high
-    mul-result
-    mul-result-2
-    add-result
-    mul-result-3
-    add-result-2
+    mul-m-4
+    add-m-4
+    cast-result
     returns)

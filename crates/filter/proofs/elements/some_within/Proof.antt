@@ -1,35 +1,40 @@
--- `filter::elements::some_within` meets its contract. The loop's invariant: what is left decides. Assumes nothing.
-use mathlib.Core.Path.{_≡_, refl, sym, _∙_}
-use Prim.Native.Nat.{_-_}
+-- `elements::some_within` meets its contract. The invariant: `seen` is 1 exactly if one of the first i elements lies within the mask.
+-- Assumes nothing.
+use mathlib.Core.Logic.{⊎-elim}
+use mathlib.Core.Path.{_≡_, refl, ap, _∙_}
+use Prim.Native.Nat.{ℕ, _-_, _≤_}
+use native.Mathlib.Omega.{arith}
 use borrow.Author.Needs.{needs}
 use borrow.Author.Tests.{eq-eqb, ne-eqb}
 use lib.Bits.{bitAnd}
 use lib.Dec.{eqb}
-use lib.ListN.{length, drop}
-use Rattle.seq.specs.Lists.{any}
-use Rattle.filter.proofs.ElementsLaws.{any-stop, any-more, any-end}
+use lib.ListN.{length, take}
+use lib.Seq.{take-all}
+use Rattle.seq.specs.Lists.{any, one}
+use Rattle.filter.proofs.ElementsLaws.{any-found, any-passed, one-eqb}
 use Rattle.filter.proofs.elements.some_within.Statement.{statement}
 use Rattle.filter.proofs.elements.some_within.Tie as tie
-use Rattle.filter.proofs.elements.some_within.Reads as reads
-use Rattle.filter.proofs.elements.some_within.Lts as lts
 
 abbrev Inv-loop : tie.InvT-loop
-Inv-loop elements mask i₀ i = any (λ e. eqb (bitAnd e mask) e) elements ≡ any (λ e. eqb (bitAnd e mask) e) (drop i elements)
+Inv-loop elements mask seen₀ i₀ seen i = (seen ≡ one (any (λ e. eqb (bitAnd e mask) e) (take i elements))) × (i ≤ length elements)
 
 abbrev μ-loop : tie.MeasureT-loop
-μ-loop elements mask i₀ i = length elements - i
+μ-loop elements mask seen₀ i₀ seen i = length elements - i
 
 loop-holds : tie.Need-loop-holds Inv-loop μ-loop
-loop-holds c = refl
+loop-holds c = (refl, omega arith)
 
-mul-element : tie.Need-mul-element Inv-loop μ-loop
-mul-element c = search needs
+mul-if1 : tie.Need-mul-if1 Inv-loop μ-loop
+mul-if1 c = search needs
 
-shared-slice-read-element : tie.Need-shared-slice-read-element Inv-loop μ-loop
-shared-slice-read-element c = search needs
+shared-slice-read-if1 : tie.Need-shared-slice-read-if1 Inv-loop μ-loop
+shared-slice-read-if1 c = search needs
 
-returns : tie.Need-returns Inv-loop μ-loop
-returns c = sym (c .before .before .before .loop .inv ∙ any-stop _ _ _ 0 (c .before .before .loop-test .taken) (eq-eqb _ _ (c .if1 .taken)))
+mul-if1-2 : tie.Need-mul-if1-2 Inv-loop μ-loop
+mul-if1-2 c = search needs
+
+shared-slice-read-if1-2 : tie.Need-shared-slice-read-if1-2 Inv-loop μ-loop
+shared-slice-read-if1-2 c = search needs
 
 add-i : tie.Need-add-i Inv-loop μ-loop
 add-i c = search needs
@@ -38,10 +43,16 @@ loop-less : tie.Need-loop-less Inv-loop μ-loop
 loop-less c = search needs
 
 loop-again : tie.Need-loop-again Inv-loop μ-loop
-loop-again c = c .before .before .before .loop .inv ∙ any-more _ _ _ 0 (c .before .before .loop-test .taken) (ne-eqb _ _ (c .if1 .left))
+loop-again c =
+    let d = c .before .before .before in
+    let h = d .loop-test .taken in
+    (⊎-elim (λ w. w .1 ∙ any-found _ _ _ h (eq-eqb _ _ (w .0 .taken))) (λ w. w .1 ∙ any-passed _ _ _ h (ne-eqb _ _ (w .0 .left)) (d .before .loop .inv .0)) (c .if1 .came), omega arith)
 
-returns-2 : tie.Need-returns-2 Inv-loop μ-loop
-returns-2 c = sym (c .before .loop .inv ∙ any-end _ _ _ (c .loop-test .left))
+returns : tie.Need-returns Inv-loop μ-loop
+returns c =
+    let l = c .before .loop in
+    let e = take-all (l .i) (c .before .before .args .elements .now) (c .loop-test .left) in
+    ap (λ (n : ℕ). eqb n 1) (l .inv .0) ∙ one-eqb _ ∙ ap (any _) e
 
 pub some-within-spec : {M : Type 1} → statement M
 some-within-spec =
@@ -50,10 +61,11 @@ some-within-spec =
     Inv-loop
     μ-loop
     loop-holds
-    mul-element
-    shared-slice-read-element
-    returns
+    mul-if1
+    shared-slice-read-if1
+    mul-if1-2
+    shared-slice-read-if1-2
     add-i
     loop-less
     loop-again
-    returns-2)
+    returns)

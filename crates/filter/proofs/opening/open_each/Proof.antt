@@ -4,20 +4,19 @@ use mathlib.Core.Path.{_≡_, refl, _∙_}
 use Prim.Native.Nat.{_-_}
 use borrow.Author.Needs.{needs}
 use lib.ListN.{length, take}
-use Rattle.filter.specs.Code.Erosion.{span, openedBy, Coded}
-use Rattle.filter.proofs.OpeningErosion.{coded-codes, masks-more, masks-all}
+use Rattle.filter.specs.Code.Opening.{OpenedBy}
+use Rattle.filter.proofs.OpeningLaws.{open-none, open-more, open-all}
 use Rattle.filter.proofs.opening.open_each.Statement.{statement}
 use Rattle.filter.proofs.opening.open_each.Tie as tie
 
 abbrev Inv-loop : tie.InvT-loop
-Inv-loop masks step reach framed solid₀ out₀ i₀ i-end solid out i =
-    Coded (openedBy (take i masks) step framed) out (span step) reach × (length solid ≡ length solid₀) × (length out ≡ length out₀)
+Inv-loop masks plane top rows solid₀ map₀ i₀ i-end solid map i = OpenedBy (take i masks) plane top rows map₀ map × (length solid ≡ length solid₀)
 
 abbrev μ-loop : tie.MeasureT-loop
-μ-loop masks step reach framed solid₀ out₀ i₀ i-end solid out i = length masks - i
+μ-loop masks plane top rows solid₀ map₀ i₀ i-end solid map i = length masks - i
 
 loop-holds : tie.Need-loop-holds Inv-loop μ-loop
-loop-holds c = (c .before .before .before .before .pre .3, refl, refl)
+loop-holds c = (open-none _ _ _ _, refl)
 
 mul-open-for : tie.Need-mul-open-for Inv-loop μ-loop
 mul-open-for c = search needs
@@ -26,7 +25,7 @@ shared-slice-read-open-for : tie.Need-shared-slice-read-open-for Inv-loop μ-loo
 shared-slice-read-open-for c = search needs
 
 open-for-requires : tie.Need-open-for-requires Inv-loop μ-loop
-open-for-requires c κs = (search needs, search needs, search needs, coded-codes (c .before .before .before .before .loop .inv .0))
+open-for-requires c κs = search needs
 
 add-i : tie.Need-add-i Inv-loop μ-loop
 add-i c = search needs
@@ -38,11 +37,8 @@ loop-again : tie.Need-loop-again Inv-loop μ-loop
 loop-again c =
     let called = c .before .before .before .before in
     let turn = called .before .before .before .before in
-    let loop = turn .before .loop in (
-      masks-more _ _ _ _ (turn .loop-test .taken) (loop .inv .0) (called .open-for .ensures),
-      called .open-for .kept .1 .1 .1 .1 .0 ∙ loop .inv .1,
-      called .open-for .kept .1 .1 .1 .1 .1 .0 ∙ loop .inv .2,
-    )
+    let loop = turn .before .loop in
+    (open-more _ _ _ _ _ (turn .loop-test .taken) (loop .inv .0) (called .open-for .ensures), called .open-for .kept .1 .1 .1 .1 .0 ∙ loop .inv .1)
 
 same-length : tie.Need-same-length Inv-loop μ-loop
 same-length c = search needs
@@ -51,7 +47,7 @@ same-length-2 : tie.Need-same-length-2 Inv-loop μ-loop
 same-length-2 c = search needs
 
 returns : tie.Need-returns Inv-loop μ-loop
-returns c = masks-all _ _ _ _ (c .loop-test .left) (c .before .loop .inv .0)
+returns c = open-all _ _ _ _ _ (c .loop-test .left) (c .before .loop .inv .0)
 
 pub open-each-spec : {M : Type 1} → statement M
 open-each-spec =

@@ -1,47 +1,72 @@
--- `job::figure::black`: the pixels of value 1 among those passed.
+-- `job::figure::black` meets its contract. The invariant: the sum is the black pixels of the whole blocks that were passed.
 -- Assumes nothing.
-use mathlib.Core.Logic.{⊎-elim}
-use mathlib.Core.Path.{_≡_, _∙_}
-use Prim.Native.Nat.{_≤_, _-_}
+use mathlib.Core.Path.{_≡_}
+use Prim.Native.Nat.{_+_, _≤_, _-_}
 use native.Mathlib.Omega.{arith}
 use borrow.Author.Needs.{needs}
-use lib.ListN.{length}
-use Rattle.job.proofs.Black.{blacks, black-one, black-other, black-all}
+use lib.ListN.{length, take, drop}
+use Rattle.operator.specs.Image.{black}
+use Rattle.job.proofs.Black.{part-few, black-join, black-all}
 use Rattle.job.proofs.figure.black.Statement.{statement}
 use Rattle.job.proofs.figure.black.Tie as tie
 
 abbrev Inv-loop : tie.InvT-loop
-Inv-loop bytes ones₀ i₀ ones i = (i ≤ length bytes) × (ones ≤ i) × (ones ≡ blacks bytes i)
+Inv-loop bytes ones₀ from₀ ones from = (from ≤ length bytes) × (ones ≡ black (take from bytes))
 
 abbrev μ-loop : tie.MeasureT-loop
-μ-loop bytes ones₀ i₀ ones i = length bytes - i
+μ-loop bytes ones₀ from₀ ones from = length bytes - from
 
 loop-holds : tie.Need-loop-holds Inv-loop μ-loop
+unfolding black
 loop-holds c = search needs
 
-shared-slice-read-if1 : tie.Need-shared-slice-read-if1 Inv-loop μ-loop
-shared-slice-read-if1 c = search needs
+sub-loop : tie.Need-sub-loop Inv-loop μ-loop
+sub-loop c = search needs
+
+black-in-requires : tie.Need-black-in-requires Inv-loop μ-loop
+black-in-requires c κs = search needs
+
+cast-ones : tie.Need-cast-ones Inv-loop μ-loop
+cast-ones c = search needs
 
 add-ones : tie.Need-add-ones Inv-loop μ-loop
-add-ones c = search needs
+add-ones c =
+    let loop = c .before .before .loop in
+    let bytes = c .before .before .before .before .args .bytes .now in
+    omega (arith, part-few (loop .from) bytes, part-few 64 (drop (loop .from) bytes))
 
-add-i : tie.Need-add-i Inv-loop μ-loop
-add-i c = search needs
+add-from : tie.Need-add-from Inv-loop μ-loop
+add-from c = search needs
 
 loop-less : tie.Need-loop-less Inv-loop μ-loop
 loop-less c = search needs
 
 loop-again : tie.Need-loop-again Inv-loop μ-loop
 loop-again c =
-    let loop = c .before .before .before .loop in
-    let image = c .before .before .before .before .args .bytes .now in
-    ⊎-elim
-    (λ w. (omega arith, omega arith, black-one image (loop .i) (search needs) (loop .inv .2) (w .0 .taken) (w .1)))
-    (λ w. (omega arith, omega arith, black-other image (loop .i) (search needs) (loop .inv .2) (w .0 .left) (w .1)))
-    (c .if1 .came)
+    let loop = c .before .before .loop in
+    let bytes = c .before .before .before .before .args .bytes .now in
+    (omega arith, omega (arith, black-join bytes (loop .from) 64))
+
+sub-black-in : tie.Need-sub-black-in Inv-loop μ-loop
+sub-black-in c = search needs
+
+black-in-requires-2 : tie.Need-black-in-requires-2 Inv-loop μ-loop
+black-in-requires-2 c κs = search needs
+
+cast-result : tie.Need-cast-result Inv-loop μ-loop
+cast-result c = search needs
+
+add-result : tie.Need-add-result Inv-loop μ-loop
+add-result c =
+    let loop = c .before .before .loop in
+    let bytes = c .before .before .before .before .args .bytes .now in
+    omega (arith, part-few (loop .from) bytes, part-few (length bytes - loop .from) (drop (loop .from) bytes))
 
 returns : tie.Need-returns Inv-loop μ-loop
-returns c = c .before .loop .inv .2 ∙ black-all _ _ (c .loop-test .left)
+returns c =
+    let loop = c .before .before .loop in
+    let bytes = c .before .before .before .before .args .bytes .now in
+    omega (arith, black-join bytes (loop .from) (length bytes - loop .from), black-all bytes (loop .from + (length bytes - loop .from)) (omega arith))
 
 pub black-spec : {M : Type 1} → statement M
 black-spec =
@@ -50,9 +75,15 @@ black-spec =
     Inv-loop
     μ-loop
     loop-holds
-    shared-slice-read-if1
+    sub-loop
+    black-in-requires
+    cast-ones
     add-ones
-    add-i
+    add-from
     loop-less
     loop-again
+    sub-black-in
+    black-in-requires-2
+    cast-result
+    add-result
     returns)

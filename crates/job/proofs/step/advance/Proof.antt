@@ -1,50 +1,38 @@
--- `job::step::advance`: the filter refuses nothing here, and gives the next image and its counts.
+-- `job::step::advance` meets its contract: the filter starts from the area that the parity names, with what the record leaves.
 -- Assumes nothing.
-use native.Mathlib.Omega.{arith}
-use mathlib.Core.Path.{refl}
 use borrow.Author.Needs.{needs}
-use Rattle.job.proofs.Areas.{part-length}
-use Rattle.job.proofs.Filtered.{computed, never-refused}
-use Rattle.job.proofs.Concluded.{ready-small}
+use Rattle.job.proofs.Concluded.{ready-small, holds-even, holds-odd, fits, made-even, made-odd}
 use Rattle.job.proofs.step.advance.Statement.{statement}
 use Rattle.job.proofs.step.advance.Tie as tie
 
-mul-pixels : tie.Need-mul-pixels
-mul-pixels c = search needs
+-- from either call of the filter back to the function's start
+abbrev start : tie.After-allow → tie.Start
+start c = c .before .before .before .before
 
-blank-requires : tie.Need-blank-requires
-blank-requires c κs = tt
+allow-requires : tie.Need-allow-requires
+allow-requires c κs = let ready = c .before .before .before .pre .0 in (ready-small ready, ready .passes, ready .counts)
 
-image-requires : tie.Need-image-requires
-image-requires c κs = search needs
-
-slice-aggregate-again : tie.Need-slice-aggregate-again
-slice-aggregate-again c = search needs
-
-again-requires : tie.Need-again-requires
-again-requires c κs = tt
-
-enum-known-made : tie.Need-enum-known-made
-enum-known-made c = search needs
-
-array-share-prefix-next : tie.Need-array-share-prefix-next
-array-share-prefix-next c =
-    let pass = c .before .before .before .before in
-    omega (arith, pass .again .kept .1 .1 .1 .1 .0, ready-small (pass .before .before .before .before .before .before .before .before .before .before .pre))
-
-slice-aggregate-conclude : tie.Need-slice-aggregate-conclude
-slice-aggregate-conclude c = part-length _ _ (array-share-prefix-next (c .before))
+repeat-requires : tie.Need-repeat-requires
+repeat-requires c κs = tt
 
 conclude-requires : tie.Need-conclude-requires
 conclude-requires c κs =
     let made = c .before .before .before .before in
-    let pass = made .before .before .before in
-    let image = pass .before .before in
-    let ready = image .before .before .before .before .before .before .before .before .pre in
-    (ready, computed ready _ (image .image .ensures) (pass .again .ensures) (omega (arith, ready-small ready)) (made .made .given .1))
+    let test = made .before .before .before in
+    let allow = test .before .before in
+    let pre = start allow .pre in
+    fits (pre .0) (pre .1) _ (holds-even (pre .0) (test .if1 .taken)) (rw (allow .allow .ensures) at (made .repeat .ensures .0))
 
-enum-known-made-2 : tie.Need-enum-known-made-2
-enum-known-made-2 c = search needs
+repeat-requires-2 : tie.Need-repeat-requires-2
+repeat-requires-2 c κs = tt
+
+conclude-requires-2 : tie.Need-conclude-requires-2
+conclude-requires-2 c κs =
+    let made = c .before .before .before .before in
+    let test = made .before .before .before in
+    let allow = test .before .before in
+    let pre = start allow .pre in
+    fits (pre .0) (pre .1) _ (holds-odd (pre .0) (test .if1 .left)) (rw (allow .allow .ensures) at (made .repeat2 .ensures .0))
 
 same-length : tie.Need-same-length
 same-length c = search needs
@@ -53,35 +41,36 @@ same-length-2 : tie.Need-same-length-2
 same-length-2 c = search needs
 
 returns : tie.Need-returns
-returns c = search needs
+returns c =
+    let made = c .before .before .before .before .before in
+    let test = made .before .before .before in
+    let allow = test .before .before in
+    let pre = start allow .pre in
+    made-even (pre .0) (pre .1) _ (c .conclude .ensures) (test .if1 .taken) (rw (allow .allow .ensures) at (made .repeat .ensures))
 
 same-length-3 : tie.Need-same-length-3
-same-length-3 c = refl
+same-length-3 c = search needs
 
 same-length-4 : tie.Need-same-length-4
-same-length-4 c = refl
+same-length-4 c = search needs
 
 returns-2 : tie.Need-returns-2
 returns-2 c =
-    let pass = c .before .before .before .before in
-    let image = pass .before .before in
-    let ready = image .before .before .before .before .before .before .before .before .pre in
-    never-refused ready _ (image .image .ensures) (pass .again .ensures) (omega (arith, ready-small ready)) (c .before .made2 .given .1)
+    let made = c .before .before .before .before .before in
+    let test = made .before .before .before in
+    let allow = test .before .before in
+    let pre = start allow .pre in
+    made-odd (pre .0) (pre .1) _ (c .conclude2 .ensures) (test .if1 .left) (rw (allow .allow .ensures) at (made .repeat2 .ensures))
 
 pub advance-spec : {M : Type 1} → statement M
 advance-spec =
     tie.close
     (tie.spec
-    mul-pixels
-    blank-requires
-    image-requires
-    slice-aggregate-again
-    again-requires
-    enum-known-made
-    array-share-prefix-next
-    slice-aggregate-conclude
+    allow-requires
+    repeat-requires
     conclude-requires
-    enum-known-made-2
+    repeat-requires-2
+    conclude-requires-2
     same-length
     same-length-2
     returns

@@ -1,0 +1,45 @@
+// The memory that passes work in, for the largest image. Each by a call, so that a proof knows its length only.
+use crate::blocks::MAP;
+use crate::blocks::SOLID;
+use crate::plane::BAND;
+use crate::plane::RIM;
+use crate::plane::STEP;
+use image::size::MAX_SIDE;
+ghost use Prim.Native.Nat.{ℕ, _<_};
+ghost use mathlib.Core.Path.{_≡_};
+ghost use lib.ListN.{getD};
+ghost use Rattle.image.specs.Size.{maxSide};
+
+// Rows with six more above and six below.
+pub(crate) const ROWS: usize = MAX_SIDE + RIM + RIM;
+
+pub(crate) const PLANE: usize = ROWS * STEP;
+
+pub(crate) const FLIPS: usize = MAX_SIDE * BAND;
+
+pub(crate) fn plane() -> [u8; PLANE] {
+    [0u8; PLANE]
+}
+
+pub(crate) fn flips() -> [u8; FLIPS] {
+    [0u8; FLIPS]
+}
+
+pub(crate) fn solid() -> [u8; SOLID] {
+    [0u8; SOLID]
+}
+
+pub(crate) fn map() -> [u8; MAP] {
+    [0u8; MAP]
+}
+
+pub(crate) fn marks() -> [u8; ROWS] {
+    [0u8; ROWS]
+}
+
+// Every row is marked.
+pub(crate) fn all_rows() -> [u8; MAX_SIDE]
+    ensures { λ r. ⌜ ((i : ℕ) → i < maxSide → getD r i 0 ≡ 1) ⌝ }
+{
+    [1u8; MAX_SIDE]
+}
