@@ -1,4 +1,4 @@
-/* Two C versions of one pass and one of the preview, to compare the library with. */
+/* One pass and the preview as one would write them at once, to compare the library with. */
 #ifndef BASELINE_H
 #define BASELINE_H
 
@@ -10,15 +10,9 @@ typedef struct { size_t passes, added, removed; } pass_counts;
 
 /* One pass of an accepted table from image to next (width x height bytes of value 0 and 1 each, at most 256 x 256).
    Adds to the counts; passes rises by one if a pixel changed. */
-typedef void pass_function(const mask_table *table, size_t width, size_t height, const uint8_t *image, uint8_t *next, pass_counts *counts);
+void plain_pass(const mask_table *table, size_t width, size_t height, const uint8_t *image, uint8_t *next, pass_counts *counts);
 
-/* As one would write it at once (baseline.c). */
-pass_function plain_pass;
-
-/* Laid out for a vectorising compiler (tuned.c). */
-pass_function tuned_pass;
-
-/* The 3 x 3 median of an image, as one would write it at once (baseline.c). */
+/* The 3 x 3 median of an image. */
 void plain_preview(size_t width, size_t height, const uint8_t *image, uint8_t *out);
 
 #endif
