@@ -88,6 +88,22 @@ pub fn named_tables() -> [(&'static str, TableRecord); 4] {
     ]
 }
 
+/// Tables whose runs take many passes: two of one element, then of two, three and six.
+pub fn lasting_tables() -> [TableRecord; 5] {
+    [
+        TableRecord::new(&[173_187], &[270_336, 14_680_064, 16_220_160]),
+        TableRecord::new(&[4_325_504], &[8_448, 1_082_400, 17_302_016]),
+        TableRecord::new(&[10_305, 10_369], &[192, 98_304, 548_864, 25_952_256]),
+        TableRecord::new(&[131_204, 4_194_436, 4_325_380], &[2_099_266]),
+        TableRecord::new(
+            &[
+                1_066_048, 1_180_256, 1_197_312, 1_458_560, 1_574_656, 1_656_832,
+            ],
+            &[468_992],
+        ),
+    ]
+}
+
 /// A random table that the rules accept, of at most so many elements, with one to four persistent elements.
 pub fn random_table(random: &mut Random, most: usize) -> TableRecord {
     let persistents = random_persistents(random);
@@ -187,6 +203,11 @@ fn random_points(random: &mut Random, percent: usize) -> u32 {
     let centre = 12;
     let points = (0..25).filter(|i| random.percent(percent) && *i != centre);
     points.map(|i| 1 << i).sum()
+}
+
+/// The opposite of each position of a mask: as far from the centre, on the other side of it.
+pub fn opposite(mask: u32) -> u32 {
+    mask.reverse_bits() >> 7
 }
 
 /// The kinds of images.

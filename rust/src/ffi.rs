@@ -1,6 +1,6 @@
 //! The C interface, as `include/mask_cleaner.h` declares it. A slice passes as pointer and length.
 //!
-//! A pass or run uses some 350 KB of stack, and the header asks for 512 KB: a main thread (8 MB) and the threads of
+//! A pass or run uses some 56 KB of stack, and the header asks for 128 KB: a main thread (8 MB) and the threads of
 //! tests (2 MB) have it; a thread made with a smaller stack may not.
 
 use crate::record::{JobRecord, TableRecord};

@@ -2,7 +2,7 @@
 //!
 //! Each function is one call of `include/mask_cleaner.h`. After a refusal all that was lent is unchanged,
 //! but for a run that meets a pass refused as unsound: it keeps the passes before.
-//! A thread that calls needs 512 KB of stack.
+//! A thread that calls needs 128 KB of stack.
 
 use crate::ffi;
 use crate::record::{Figures, JobRecord, Progress, Reason, Refusal, TableRecord, MAX_RANKS};

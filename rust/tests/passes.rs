@@ -2,99 +2,16 @@
 
 mod common;
 
+use common::compare::{compare, compare_with_filter, some_table, Counts};
 use common::{report, State};
 use mask_cleaner::cases::{
-    cobbles, cross, median, named_tables, random_figure, random_image, ring,
+    cobbles, cross, named_tables, random_figure, random_image, random_table, Kind, Random,
 };
-use mask_cleaner::cases::{random_table, Kind, Random};
-use mask_cleaner::fast::Filter;
 use mask_cleaner::library;
 use mask_cleaner::model::{Answer, Call};
-use mask_cleaner::record::{JobRecord, Progress, TableRecord, MAX_RANKS, STAGE_STABLE};
+use mask_cleaner::record::{JobRecord, TableRecord, MAX_RANKS};
 use mask_cleaner::reference::image::{file_of, Image};
 use mask_cleaner::reference::pass::one_pass;
-
-/// What a test ran.
-#[derive(Default)]
-struct Counts {
-    jobs: usize,
-    passes: usize,
-    changing: usize,
-}
-
-impl Counts {
-    fn report(&self, title: &str) {
-        report(&format!(
-            "{title}: {} jobs, {} passes, {} of them changing",
-            self.jobs, self.passes, self.changing
-        ));
-    }
-}
-
-/// Up to so many pixels a job is done twice, by passes and by a run.
-const RUN_PIXELS: usize = 1500;
-
-/// Loads an image and makes passes until it is stable, at most so many, then all other calls; library and reference agree after each.
-fn compare(
-    image: &Image,
-    table: &TableRecord,
-    most: usize,
-    random: &mut Random,
-    counts: &mut Counts,
-) {
-    let pixels = image.pixels.len();
-    let (first, second) = (pixels + random.below(9), pixels + random.below(9));
-    let mut state = State::empty(random.bytes(first), random.bytes(second));
-    let load = Call::Load {
-        table: *table,
-        file: file_of(image),
-    };
-    assert_eq!(state.apply_both(&load, &mut []), Ok(Answer::Loaded));
-    counts.jobs += 1;
-    for _ in 0..most {
-        let answer = state.apply_both(&Call::Pass, &mut []);
-        counts.passes += 1;
-        if answer == Ok(Answer::Progress(Progress::Stable)) {
-            break;
-        }
-        assert_eq!(answer, Ok(Answer::Progress(Progress::Changed)));
-        counts.changing += 1;
-    }
-    let stable = state.clone();
-    finish(&mut state, image, random);
-    if pixels <= RUN_PIXELS {
-        assert_eq!(state.apply_both(&load, &mut []), Ok(Answer::Loaded));
-        let answer = state.apply_both(&Call::Run, &mut []);
-        assert_eq!(answer, Ok(Answer::Progress(Progress::Stable)));
-        assert_eq!(state, stable, "a run ends as its passes called singly");
-        finish(&mut state, image, random);
-    }
-}
-
-/// View and figures; then collect, which is refused while the image is not stable.
-fn finish(state: &mut State, image: &Image, random: &mut Random) {
-    let stable = state.record.stage == STAGE_STABLE;
-    for call in [Call::View, Call::Figures] {
-        let answer = state.apply_both(&call, &mut []);
-        assert!(answer.is_ok());
-    }
-    let out_length = file_of(image).len() + random.below(9);
-    let mut out = random.output(out_length);
-    let answer = state.apply_both(&Call::Collect { out_length }, &mut out);
-    assert_eq!(answer.is_ok(), stable);
-}
-
-fn some_table(random: &mut Random) -> TableRecord {
-    match random.below(9) {
-        0 => ring(),
-        1 => cross(),
-        2 => median(),
-        3 => cobbles(),
-        4 => random_table(random, 1),
-        5 => random_table(random, 4),
-        _ => random_table(random, 64),
-    }
-}
 
 #[test]
 fn all_small_sizes() {
@@ -247,26 +164,6 @@ fn every_persistent_element() {
     }
 }
 
-/// A run of the library beside passes by the quick version.
-fn compare_run(image: &Image, table: &TableRecord, random: &mut Random) -> usize {
-    let Image { width, height, .. } = *image;
-    let pixels = width * height;
-    let mut record = JobRecord::EMPTY;
-    let (mut first, mut second) = (random.bytes(pixels), random.bytes(pixels));
-    library::load(&mut record, table, &file_of(image), &mut first, &second).expect("accepted");
-    let answer = library::run(&mut record, &mut first, &mut second);
-    assert_eq!(answer, Ok(Progress::Stable));
-    let (mut clean, mut other) = (image.pixels.clone(), vec![0; pixels]);
-    let totals = Filter::new(table, width, height).run(&mut clean, &mut other);
-    assert_eq!(totals, (record.passes, record.added, record.removed));
-    assert_eq!(
-        clean, first,
-        "both areas hold the stable image after a quiet pass"
-    );
-    assert_eq!(clean, second);
-    record.passes
-}
-
 #[test]
 fn runs_on_large_images() {
     let mut random = Random::new(44);
@@ -279,7 +176,7 @@ fn runs_on_large_images() {
         };
         let table = some_table(&mut random);
         let image = random_image(width, height, &mut random);
-        passes += compare_run(&image, &table, &mut random);
+        passes += compare_with_filter(&image, &table, &mut random);
         jobs += 1;
     }
     report(&format!(
@@ -323,23 +220,6 @@ fn nothing_outside_the_areas() {
     report(&format!("bytes around areas and output: {cases} cases"));
 }
 
-/// What a thread with the stack that the header asks for gives.
-fn in_512_kilobytes<T: Send + 'static>(work: fn() -> T) -> T {
-    let thread = std::thread::Builder::new().stack_size(512 * 1024);
-    let thread = thread.spawn(work).expect("a thread");
-    thread.join().expect("an end")
-}
-
-#[test]
-fn runs_in_512_kilobytes_of_stack() {
-    let passes = in_512_kilobytes(|| {
-        let mut random = Random::new(46);
-        let image = Kind::Worn.image(256, 256, &mut random);
-        compare_run(&image, &median(), &mut random)
-    });
-    report(&format!("a run in 512 KB of stack: {passes} passes"));
-}
-
 /// A load of three images by library and reference.
 fn load_three(width: usize, height: usize, random: &mut Random) {
     let load = Call::LoadThree {
@@ -352,16 +232,14 @@ fn load_three(width: usize, height: usize, random: &mut Random) {
 }
 
 #[test]
-fn loads_three_files_in_512_kilobytes_of_stack() {
-    let loads = in_512_kilobytes(|| {
-        let mut random = Random::new(49);
-        let sides = [1, 7, 8, 9, 63, 64, 65, 255, 256];
-        for width in sides {
-            for height in sides {
-                load_three(width, height, &mut random);
-            }
+fn loads_three_files() {
+    let mut random = Random::new(49);
+    let sides = [1, 7, 8, 9, 63, 64, 65, 255, 256];
+    for width in sides {
+        for height in sides {
+            load_three(width, height, &mut random);
         }
-        sides.len() * sides.len()
-    });
-    report(&format!("loads of three files in 512 KB of stack: {loads}"));
+    }
+    let loads = sides.len() * sides.len();
+    report(&format!("loads of three files: {loads}"));
 }

@@ -50,32 +50,13 @@ fn sound(random: &mut Random) -> State {
     let (width, height) = (1 + random.below(12), 1 + random.below(12));
     let pixels = width * height;
     let image = random_image(width, height, random);
-    let passes = random.below(pixels + 1);
-    let added = random.below(pixels + 1);
-    let mut present = image.pixels;
-    let more = random.below(4);
-    present.extend(random.bytes(more));
-    let length = pixels + random.below(4);
-    let other = random.bytes(length);
-    let (first, second) = if passes % 2 == 1 {
-        (other, present)
-    } else {
-        (present, other)
-    };
-    let record = JobRecord {
-        stage: *random.choose(&[STAGE_LOADED, STAGE_LOADED, STAGE_STABLE]),
-        width,
-        height,
-        passes,
-        added,
-        removed: random.below(pixels + 1 - added),
-        table: random_table(random, 10),
-    };
-    State {
-        record,
-        first,
-        second,
-    }
+    let (passes, added) = (random.below(pixels + 1), random.below(pixels + 1));
+    let table = random_table(random, 10);
+    let mut state = State::holding(&image, table, passes, random);
+    state.record.stage = *random.choose(&[STAGE_LOADED, STAGE_LOADED, STAGE_STABLE]);
+    state.record.added = added;
+    state.record.removed = random.below(pixels + 1 - added);
+    state
 }
 
 /// Breaks one clause.
@@ -313,6 +294,46 @@ fn run_keeps_its_passes() {
         "runs that meet 14's clause on passes: {cases} cases, {kept} of them with passes kept"
     ));
     assert!(kept >= 100);
+}
+
+/// Numbers beside zero, the pixels and powers of two, up to the greatest.
+fn near_the_ceilings(pixels: usize) -> Vec<usize> {
+    let ceilings = [0, pixels, 1 << 16, 1 << 32, 1 << 63];
+    let near = ceilings.map(|n| [n.wrapping_sub(1), n, n + 1]);
+    let far = [
+        pixels.wrapping_neg(),
+        pixels.wrapping_neg() - 1,
+        usize::MAX - 1,
+    ];
+    [near.concat(), far.to_vec()].concat()
+}
+
+/// Passes, added and removed, each near a ceiling: where two of them together wrap, too.
+#[test]
+fn counts_near_the_ceilings() {
+    let mut random = Random::new(65);
+    let mut tally = Tally::default();
+    let (mut wrapping, mut full) = (0, 0);
+    for (width, height, cases) in [(1, 1, 1500), (3, 3, 1500), (65, 3, 1500), (256, 256, 40)] {
+        let near = near_the_ceilings(width * height);
+        for _ in 0..cases {
+            let image = Kind::Worn.image(width, height, &mut random);
+            let mut state = State::holding(&image, ring(), *random.choose(&near), &mut random);
+            let small = random.percent(50);
+            let choices = if small { &near[..6] } else { &near };
+            state.record.added = *random.choose(choices);
+            state.record.removed = *random.choose(choices);
+            let JobRecord { added, removed, .. } = state.record;
+            wrapping += usize::from(added.checked_add(removed).is_none());
+            full += usize::from(added.checked_add(removed) == Some(width * height));
+            try_all(&state, &mut random, &mut tally);
+        }
+    }
+    tally.report("counts near the ceilings");
+    report(&format!(
+        "  added and removed wrap: {wrapping}, are the pixels: {full}"
+    ));
+    assert!(wrapping >= 500 && full >= 100 && tally.accepted >= 500);
 }
 
 /// Alters one field of the record, often to a value that is sound, or a byte of an area, or empties the record.

@@ -4,7 +4,9 @@
 use mask_cleaner::cases::{random_image, random_table, Random};
 use mask_cleaner::job::{Job, Table};
 use mask_cleaner::model::{Answer, Call};
-use mask_cleaner::record::{JobRecord, Reason, Refusal, TableRecord, MAX_RANKS, PLACES};
+use mask_cleaner::record::{
+    JobRecord, Reason, Refusal, TableRecord, MAX_RANKS, PLACES, STAGE_LOADED,
+};
 use mask_cleaner::reference::image::{file_of, Image};
 use mask_cleaner::{library, reference};
 use std::collections::BTreeMap;
@@ -12,6 +14,7 @@ use std::io::Write;
 use std::ops::RangeInclusive;
 use std::slice::ChunksExactMut;
 
+pub mod compare;
 pub mod tables;
 
 /// Prints a line past the capture of the test runner.
@@ -62,6 +65,33 @@ impl State {
     pub fn empty(first: Vec<u8>, second: Vec<u8>) -> State {
         State {
             record: JobRecord::EMPTY,
+            first,
+            second,
+        }
+    }
+
+    /// A loaded image after so many passes: in the area that their parity names, a few bytes behind it, and any bytes in the other area.
+    pub fn holding(image: &Image, table: TableRecord, passes: usize, random: &mut Random) -> State {
+        let Image { width, height, .. } = *image;
+        let (mut present, behind) = (image.pixels.clone(), random.below(4));
+        present.extend(random.bytes(behind));
+        let other = random.below(4) + width * height;
+        let other = random.bytes(other);
+        let (first, second) = if passes % 2 == 1 {
+            (other, present)
+        } else {
+            (present, other)
+        };
+        let record = JobRecord {
+            stage: STAGE_LOADED,
+            width,
+            height,
+            passes,
+            table,
+            ..JobRecord::EMPTY
+        };
+        State {
+            record,
             first,
             second,
         }
