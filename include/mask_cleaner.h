@@ -10,7 +10,7 @@
    - Memory that a call may write (a pointer without const) overlaps no other memory lent to the same call.
    - Every call on a job is lent the same two areas in the same order, and between these calls nobody else writes
      the record or the areas. A record that does not fit its areas is refused by 14 as far as that can be seen.
-   - There are 512 KB of stack: mask_pass and mask_run use most of that. No call uses the heap or static memory, so
+   - There are 128 KB of stack: mask_pass and mask_run use about half of that. No call uses the heap or static memory, so
      calls on different memory may run in different threads. */
 #ifndef MASK_CLEANER_H
 #define MASK_CLEANER_H
