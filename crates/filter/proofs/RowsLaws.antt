@@ -3,10 +3,10 @@
 --     or-none, none-or              a join is 0 exactly where both sides are
 --     spread-none, spread-more      marks that are spread: none, and one join more; spread-after: over rows that were stored before
 --     quiet-next                    where no row within reach changed in a pass, the next pass changes nothing
---     turned-at                     a pixel of the image after the changes S; turned-kept, kept-turned: it stays exactly where S does not hold
+--     turned-kept, kept-turned      a pixel of the image after the changes S stays exactly where S does not hold
 --     still-next                    the marks of a pass, spread, are marks for the next pass
 -- Assumes nothing.
-use mathlib.Core.Bool.{Bool, true, false, cond}
+use mathlib.Core.Bool.{Bool, true, false}
 use mathlib.Core.List.{List}
 use mathlib.Core.Logic.{⊎-elim}
 use mathlib.Core.Path.{_≡_, refl, sym, _∙_, subst}
@@ -18,11 +18,11 @@ use lib.ListN.{getD}
 use Rattle.filter.specs.Code.Plane.{rim}
 use Rattle.filter.specs.Code.Rows.{nearby, Quiet, Spread}
 use Rattle.filter.specs.Code.Turn.{Still, turned}
+use Rattle.filter.proofs.TurnImage.{turned-at}
 use Rattle.operator.proofs.Locality.{locality}
 use Rattle.operator.specs.Image.{pixel}
 use Rattle.operator.specs.Locality.{reach}
 use Rattle.operator.specs.Pass.{pass}
-use Rattle.seq.proofs.Grid.{cell-at, cell-tab}
 use Rattle.seq.specs.Loops.{Swept}
 use Rattle.table.specs.declared.Table.{Table}
 
@@ -70,19 +70,15 @@ quiet-next t w h img c kept i x a b quiet = locality t w h (pass t w h img) img 
         kept r p (rw g at (quiet (r + reach - i) (omega arith))) y q
 
 module _ (S : ℕ → ℕ → Bool) (w h : ℕ) (img : List ℕ) (r x : ℕ) (i : r < h) (j : x < w) where
-  turned-at : pixel w (turned S w h img) r x ≡ cond (S r x) (1 - pixel w img r x) (pixel w img r x)
-  unfolding turned
-  turned-at = cell-tab w (λ a b. cond (S a b) (1 - pixel w img a b) (pixel w img a b)) 0 (cell-at i j)
-
   pub turned-kept : S r x ≡ false → pixel w (turned S w h img) r x ≡ pixel w img r x
-  turned-kept e = turned-at ∙ rw e refl
+  turned-kept e = turned-at w h img S r x i j ∙ rw e refl
 
   -- no number p is 1 − p
   pub kept-turned : pixel w (turned S w h img) r x ≡ pixel w img r x → S r x ≡ false
   kept-turned e = by (S r x) refl
     where
       by : (b : Bool) → S r x ≡ b → b ≡ false
-      by true q = let g : 1 - pixel w img r x ≡ pixel w img r x = rw q at (sym turned-at ∙ e) in absurd (omega arith)
+      by true q = let g : 1 - pixel w img r x ≡ pixel w img r x = rw q at (sym (turned-at w h img S r x i j) ∙ e) in absurd (omega arith)
       by false q = refl
 
 -- S are the changes of a pass, and T those of the next
