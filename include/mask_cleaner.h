@@ -10,8 +10,8 @@
    - Memory that a call may write (a pointer without const) overlaps no other memory lent to the same call.
    - Every call on a job is lent the same two areas in the same order, and between these calls nobody else writes
      the record or the areas. A record that does not fit its areas is refused by 14 as far as that can be seen.
-   - There are 128 KB of stack: mask_pass and mask_run use about half of that. No call uses the heap or static memory, so
-     calls on different memory may run in different threads. */
+   - There are 128 KB of stack, of which mask_pass and mask_run use about half, and 256 KB where a job holds a strip of
+     several parts. No call uses the heap or static memory, so calls on different memory may run in different threads. */
 #ifndef MASK_CLEANER_H
 #define MASK_CLEANER_H
 
@@ -32,11 +32,15 @@ extern "C" {
 /* ---- limits */
 
 #define MASK_MAX_ELEMENTS 64
-#define MASK_MAX_RANKS 4          /* persistent elements of a table */
-#define MASK_MAX_SIDE 256
-#define MASK_MAX_PIXELS 65536     /* bytes of the largest work area */
-#define MASK_MAX_TABLE_FILE 275   /* bytes of the longest table file */
-#define MASK_MAX_IMAGE_FILE 8203  /* bytes of the longest image file */
+#define MASK_MAX_RANKS 4               /* persistent elements of a table */
+#define MASK_MAX_SIDE 256              /* of an image, and of each part of a strip */
+#define MASK_MAX_PIXELS 65536          /* bytes of the largest work area that an image needs */
+#define MASK_MAX_TABLE_FILE 275        /* bytes of the longest table file */
+#define MASK_MAX_IMAGE_FILE 8203       /* bytes of the longest image file */
+#define MASK_MAX_PARTS 16              /* parts of a strip */
+#define MASK_MAX_ROWS 4096             /* rows of all parts */
+#define MASK_MAX_STRIP_PIXELS 1048576  /* bytes of the largest work area that a strip needs */
+#define MASK_MAX_STRIP_FILES 131248    /* bytes of the longest files of all parts */
 
 /* ---- refusals: the number, and its place where that is not 0 */
 
@@ -50,15 +54,16 @@ extern "C" {
 #define MASK_NOT_PERSISTENT 7     /* a persistent element is not persistent; the lowest element that one of them misses; its witness and position: below */
 #define MASK_BYTES_LEFT 8         /* table file: bytes after the last persistent element; one more than its place */
 #define MASK_HEADER_FORM 9        /* image file: the header is not `P4`, line feed, width, space, height, line feed */
-#define MASK_SIZE_RANGE 10        /* width or height is not 1 to 256 */
-#define MASK_RASTER_LENGTH 11     /* image file: not as many bytes as its rows need; pixels: not width x height bytes */
-#define MASK_PIXEL_VALUE 12       /* pixels: a byte above 1; the lowest such row, from 0 */
+#define MASK_SIZE_RANGE 10        /* width or height is not 1 to 256; of a strip, the lowest such part, from 1, also where there is one part */
+#define MASK_RASTER_LENGTH 11     /* image file: not as many bytes as its rows need; pixels: not width x height bytes, of a strip width x all rows */
+#define MASK_PIXEL_VALUE 12       /* pixels: a byte above 1; the lowest such row, from 0, counted through a strip */
 #define MASK_AREA_SHORT 13        /* a lent output or area is too short */
 #define MASK_UNSOUND 14           /* the record of a job is not one that these calls make, or does not fit its areas */
 #define MASK_NOT_COLLECTED 15     /* load: the job already holds an image */
 #define MASK_NOTHING_LOADED 16    /* the job holds no image */
 #define MASK_NOT_STABLE 17        /* collect: a pass may still change the image */
 #define MASK_RANK_COUNT 18        /* the number of persistent elements is not 1 to 4 in a record, or not 2 to 4 in a table file that starts with 0; count + 1 */
+#define MASK_PARTS 23             /* strip: the number of parts is not 1 to 16; or a part's width is not the first's, the lowest such part, from 1 */
 #define MASK_SIZES_DIFFER 26      /* three image files: a width or height is not the first file's; the lowest such file, 2 or 3 */
 
 /* The place of a table's parts: 0 the count, and the 0 before it in a file; i the i-th element (from 1). The only persistent
@@ -85,12 +90,27 @@ typedef struct {
     uint32_t persistents[MASK_MAX_RANKS];
 } mask_table;
 
+/* A strip: images of one width laid end to end, the first on top. Its parts are 1 to 16, and each has a width and a height.
+   In an argument, places past `parts` are not looked at; in the record of a job they are 0. */
+typedef struct {
+    size_t parts;
+    size_t widths[MASK_MAX_PARTS];
+    size_t heights[MASK_MAX_PARTS];
+} mask_strip;
+
+/* Of each part, the pixels in its own rows that went from 0 to 1 and from 1 to 0. Places past the parts are 0. */
+typedef struct {
+    size_t added[MASK_MAX_PARTS];
+    size_t removed[MASK_MAX_PARTS];
+} mask_part_counts;
+
 #define MASK_STAGE_EMPTY 0
 #define MASK_STAGE_LOADED 1
 #define MASK_STAGE_STABLE 2 /* a pass changes nothing any more */
 
 /* A job. It starts with every field 0, as `mask_job job = {0};` makes it; after that only the calls write it. The image
-   is in the first area when `passes` is even, else in the second. */
+   is in the first area when `passes` is even, else in the second. A strip is one image, as high as its parts together; an
+   image that was not loaded as a strip has one part. */
 typedef struct {
     uint8_t stage;
     size_t width;
@@ -99,6 +119,8 @@ typedef struct {
     size_t added;   /* pixels that went from 0 to 1 */
     size_t removed; /* pixels that went from 1 to 0 */
     mask_table table;
+    mask_strip strip;
+    mask_part_counts counts; /* they sum to added and removed */
 } mask_job;
 
 /* ---- answers */
@@ -205,11 +227,18 @@ mask_checked mask_load_three(mask_job *job, mask_table table, const uint8_t *one
                              const uint8_t *two, size_t two_length, const uint8_t *three, size_t three_length,
                              uint8_t *first, size_t first_length, const uint8_t *second, size_t second_length);
 
+/* Starts a job as mask_load does, from a strip: `pixels` has the bytes of all parts, one part after the other. The parts are
+   cleaned as one image, across the seams between them. Refused by 14, 15, then as mask_table_check refuses, then by 23 (the
+   number of parts), 10 (a part), 23 (the width of a part), 11, 12, and by 13 where either area is shorter than the pixels. */
+mask_checked mask_load_strip(mask_job *job, mask_table table, mask_strip strip, const uint8_t *pixels,
+                             size_t pixels_length, uint8_t *first, size_t first_length, const uint8_t *second,
+                             size_t second_length);
+
 /* One pass of the filter: the new image goes to the area that does not hold the present one. If pixels changed, passes,
-   added and removed rise. If none did, the stage becomes stable and `stable` is 1. At stage stable nothing is written and
-   `stable` is 1. Refused by 14, 16; and by 14 where the counts would rise above the number of pixels, which no job does
-   that only these calls wrote. After k passes a pixel depends on no pixel of the loaded image that is more than 6 x k rows
-   or columns away. */
+   added and removed rise, and the counts of the parts with them. If none did, the stage becomes stable and `stable` is 1.
+   At stage stable nothing is written and `stable` is 1. Refused by 14, 16; and by 14 where the counts would rise above the
+   number of pixels, which no job does that only these calls wrote. After k passes a pixel depends on no pixel of the loaded
+   image that is more than 6 x k rows or columns away. */
 mask_progress mask_pass(mask_job *job, uint8_t *first, size_t first_length, uint8_t *second, size_t second_length);
 
 /* Passes until one changes nothing; `stable` is then 1. That takes at most width x height + 1 passes: every pass but the
@@ -217,17 +246,19 @@ mask_progress mask_pass(mask_job *job, uint8_t *first, size_t first_length, uint
    by 14, the passes before it stay. */
 mask_progress mask_run(mask_job *job, uint8_t *first, size_t first_length, uint8_t *second, size_t second_length);
 
-/* Where the present image is: the first `length` bytes of the area with the number `area`. Nothing is written. Refused by
-   14, 16. */
+/* Where the present image is: the first `length` bytes of the area with the number `area`; of a strip, all its parts.
+   Nothing is written. Refused by 14, 16. */
 mask_part mask_view(mask_job job, const uint8_t *first, size_t first_length, const uint8_t *second,
                     size_t second_length);
 
-/* Balance and cover of the present image. Nothing is written. Refused by 14, 16. */
+/* Balance and cover of the present image, of a strip those of all its parts together. Nothing is written. Refused by 14,
+   16. */
 mask_figures_answer mask_figures(mask_job job, const uint8_t *first, size_t first_length, const uint8_t *second,
                                  size_t second_length);
 
 /* Ends a job at stage stable: writes the image's file to the front of `out` and sets every field of the record to 0; bytes
-   of `out` past the file, and the areas, stay. Refused by 14, 16, 17, 13. */
+   of `out` past the file, and the areas, stay. Of a strip, writes a file for each part, one after another; `length` is that
+   of all together. Refused by 14, 16, 17, and by 13 where `out` is shorter than that. */
 mask_file_length mask_collect(mask_job *job, const uint8_t *first, size_t first_length, const uint8_t *second,
                               size_t second_length, uint8_t *out, size_t out_length);
 

@@ -55,6 +55,24 @@ static mask_table cross(size_t ranks) {
     return t;
 }
 
+/* Parts of one width. */
+static mask_strip strip_of(size_t width, size_t parts, const size_t *heights) {
+    mask_strip s = {0};
+    s.parts = parts;
+    for (size_t i = 0; i < parts; i++) {
+        s.widths[i] = width;
+        s.heights[i] = heights[i];
+    }
+    return s;
+}
+
+/* Gives a record by hand its only part. */
+static void one_part(mask_job *j) {
+    j->strip = strip_of(j->width, 1, &j->height);
+    j->counts.added[0] = j->added;
+    j->counts.removed[0] = j->removed;
+}
+
 /* A record by hand: 5 x 3, stable, an odd number of passes, all counts different. */
 static mask_job by_hand(void) {
     mask_job j = {0};
@@ -65,6 +83,7 @@ static mask_job by_hand(void) {
     j.added = 2;
     j.removed = 11;
     j.table = ring();
+    one_part(&j);
     return j;
 }
 
@@ -82,9 +101,19 @@ static int same_table(mask_table a, mask_table b) {
         && memcmp(a.persistents, b.persistents, sizeof a.persistents) == 0;
 }
 
+static int same_strip(mask_strip a, mask_strip b) {
+    return a.parts == b.parts && memcmp(a.widths, b.widths, sizeof a.widths) == 0
+        && memcmp(a.heights, b.heights, sizeof a.heights) == 0;
+}
+
+static int same_counts(mask_part_counts a, mask_part_counts b) {
+    return memcmp(a.added, b.added, sizeof a.added) == 0 && memcmp(a.removed, b.removed, sizeof a.removed) == 0;
+}
+
 static int same_job(mask_job a, mask_job b) {
     return a.stage == b.stage && a.width == b.width && a.height == b.height && a.passes == b.passes && a.added == b.added
-        && a.removed == b.removed && same_table(a.table, b.table);
+        && a.removed == b.removed && same_table(a.table, b.table) && same_strip(a.strip, b.strip)
+        && same_counts(a.counts, b.counts);
 }
 
 /* What every answer starts with is in the same place. */
@@ -96,8 +125,12 @@ static void layout(void) {
     EXPECT(sizeof(size_t) == 8);
     EXPECT(sizeof(mask_table) == 288 && offsetof(mask_table, count) == 0 && offsetof(mask_table, elements) == 8);
     EXPECT(offsetof(mask_table, ranks) == 264 && offsetof(mask_table, persistents) == 272);
-    EXPECT(sizeof(mask_job) == 336 && offsetof(mask_job, width) == 8 && offsetof(mask_job, removed) == 40);
-    EXPECT(offsetof(mask_job, table) == 48);
+    EXPECT(sizeof(mask_strip) == 264 && offsetof(mask_strip, parts) == 0 && offsetof(mask_strip, widths) == 8);
+    EXPECT(offsetof(mask_strip, heights) == 136);
+    EXPECT(sizeof(mask_part_counts) == 256 && offsetof(mask_part_counts, added) == 0);
+    EXPECT(offsetof(mask_part_counts, removed) == 128);
+    EXPECT(sizeof(mask_job) == 856 && offsetof(mask_job, width) == 8 && offsetof(mask_job, removed) == 40);
+    EXPECT(offsetof(mask_job, table) == 48 && offsetof(mask_job, strip) == 336 && offsetof(mask_job, counts) == 600);
     EXPECT(sizeof(mask_checked) == 32 && sizeof(mask_table_answer) == 320 && sizeof(mask_image_size) == 48);
     EXPECT(sizeof(mask_file_length) == 40 && sizeof(mask_progress) == 40 && sizeof(mask_part) == 48);
     EXPECT(sizeof(mask_figures_answer) == 48);
@@ -202,6 +235,22 @@ static mask_checked load_three(mask_job *j, mask_table t, three_files f, uint8_t
                            second, second_length);
 }
 
+/* A strip of 5 x 5 pixels in two parts, the dot in the last row of the first. */
+static const size_t two_heights[] = {3, 2};
+static const uint8_t dot_pixels[25] = {[12] = 1};
+
+static mask_checked load_dot(mask_job *j, mask_table t, uint8_t *first, size_t first_length, const uint8_t *second,
+                             size_t second_length) {
+    return mask_load_strip(j, t, strip_of(5, 2, two_heights), dot_pixels, sizeof dot_pixels, first, first_length, second,
+                           second_length);
+}
+
+/* A strip and areas of which nothing is as it should be. */
+static mask_checked load_bad_strip(mask_job *j, mask_table t, uint8_t *first, const uint8_t *second) {
+    mask_strip bad = {0};
+    return mask_load_strip(j, t, bad, bad_file, sizeof bad_file, first, 1, second, 1);
+}
+
 /* Tables that are refused by 5 or 7, as files and records. */
 typedef struct {
     uint8_t file[16];
@@ -213,7 +262,7 @@ typedef struct {
 
 #define REFUSED_AS(answer, t) WITNESSED(answer, (t)->number, (t)->place, (t)->witness, (t)->position)
 
-/* Check, read, write and both loads give witness and position. */
+/* Check, read, write and all loads give witness and position. */
 static void witnessed_calls(const refused_table *t) {
     uint8_t out[16];
     uint8_t first[32];
@@ -233,6 +282,8 @@ static void witnessed_calls(const refused_table *t) {
     EXPECT(REFUSED_AS(l, t) && same_job(j, empty) && all(first, 32, FILL) && all(second, 32, FILL));
     l = load_three(&j, t->table, bad_files, first, 32, second, 32);
     EXPECT(REFUSED_AS(l, t) && same_job(j, empty) && all(first, 32, FILL) && all(second, 32, FILL));
+    l = load_bad_strip(&j, t->table, first, second);
+    EXPECT(REFUSED_AS(l, t) && same_job(j, empty) && all(first, 32, FILL) && all(second, 32, FILL));
 }
 
 /* In the record of a job such a table is unsound, without a witness. */
@@ -251,6 +302,7 @@ static void unsound_table(const refused_table *t) {
     EXPECT(REFUSED(mask_collect(&j, first, 16, second, 16, out, 16), MASK_UNSOUND, 0));
     EXPECT(REFUSED(mask_load(&j, ring(), dot_file, sizeof dot_file, first, 16, second, 16), MASK_UNSOUND, 0));
     EXPECT(REFUSED(load_three(&j, ring(), bad_files, first, 16, second, 16), MASK_UNSOUND, 0));
+    EXPECT(REFUSED(load_bad_strip(&j, ring(), first, second), MASK_UNSOUND, 0));
     EXPECT(same_job(j, before));
 }
 
@@ -340,12 +392,23 @@ static void preview(void) {
     EXPECT(REFUSED(mask_preview(4, 3, pixels, 12, area, sizeof area), MASK_PIXEL_VALUE, 2));
 }
 
+/* The fields of a record that have a place for each part, one place after another. */
+static size_t *part_field(mask_job *j, size_t n) {
+    size_t part = n % MASK_MAX_PARTS;
+    switch (n / MASK_MAX_PARTS) {
+    case 0: return &j->strip.widths[part];
+    case 1: return &j->strip.heights[part];
+    case 2: return &j->counts.added[part];
+    default: return &j->counts.removed[part];
+    }
+}
+
 /* A field of an empty record that is not zero is seen wherever it stands, by value and behind the pointer. */
 static void fields(void) {
     uint8_t first[32] = {0};
     uint8_t second[32] = {0};
     mask_job j = {0};
-    for (int field = 0; field < 8 + MASK_MAX_RANKS + MASK_MAX_ELEMENTS; field++) {
+    for (int field = 0; field < 9 + MASK_MAX_RANKS + MASK_MAX_ELEMENTS + 4 * MASK_MAX_PARTS; field++) {
         memset(&j, 0, sizeof j);
         switch (field) {
         case 0: j.stage = 3; break;
@@ -356,11 +419,14 @@ static void fields(void) {
         case 5: j.removed = 1; break;
         case 6: j.table.count = 1; break;
         case 7: j.table.ranks = 1; break;
+        case 8: j.strip.parts = 1; break;
         default:
-            if (field < 8 + MASK_MAX_RANKS) {
-                j.table.persistents[field - 8] = 1;
+            if (field < 9 + MASK_MAX_RANKS) {
+                j.table.persistents[field - 9] = 1;
+            } else if (field < 9 + MASK_MAX_RANKS + MASK_MAX_ELEMENTS) {
+                j.table.elements[field - 9 - MASK_MAX_RANKS] = 1;
             } else {
-                j.table.elements[field - 8 - MASK_MAX_RANKS] = 1;
+                *part_field(&j, field - 9 - MASK_MAX_RANKS - MASK_MAX_ELEMENTS) = 1;
             }
         }
         mask_job before = j;
@@ -369,6 +435,7 @@ static void fields(void) {
         EXPECT(REFUSED(mask_pass(&j, first, 32, second, 32), MASK_UNSOUND, 0) && same_job(j, before));
         EXPECT(REFUSED(mask_load(&j, ring(), dot_file, sizeof dot_file, first, 32, second, 32), MASK_UNSOUND, 0));
         EXPECT(REFUSED(load_three(&j, ring(), bad_files, first, 32, second, 32), MASK_UNSOUND, 0));
+        EXPECT(REFUSED(load_bad_strip(&j, ring(), first, second), MASK_UNSOUND, 0));
         EXPECT(same_job(j, before));
     }
 }
@@ -403,6 +470,7 @@ static void empty(void) {
     bad.ranks = 5;
     EXPECT(REFUSED(mask_load(&j, bad, dot_file, sizeof dot_file, first, 32, second, 32), MASK_RANK_COUNT, 2));
     EXPECT(REFUSED(load_three(&j, bad, bad_files, first, 32, second, 32), MASK_RANK_COUNT, 2));
+    EXPECT(REFUSED(load_bad_strip(&j, bad, first, second), MASK_RANK_COUNT, 2));
     EXPECT(REFUSED(mask_load(&j, ring(), dot_file, 11, first, 32, second, 32), MASK_RASTER_LENGTH, 0));
     EXPECT(REFUSED(mask_load(&j, ring(), dot_file, 12, first, 24, second, 32), MASK_AREA_SHORT, 0));
     EXPECT(REFUSED(mask_load(&j, ring(), dot_file, 12, first, 32, second, 24), MASK_AREA_SHORT, 0));
@@ -446,7 +514,42 @@ static void by_value(void) {
     EXPECT(REFUSED(mask_view(j, first, 15, second, 16), MASK_UNSOUND, 0));
 }
 
-/* Cover is to the nearest thousandth, and an exact half goes to the even one. */
+/* A record by hand with two parts is sound; then each of its places, and each place past the parts, tells by value. */
+static void parts_by_value(void) {
+    uint8_t first[32] = {0};
+    uint8_t second[32] = {0};
+    mask_job j = by_hand();
+    j.height = 5;
+    j.strip = strip_of(5, 2, two_heights);
+    j.counts.added[1] = 2;
+    j.counts.added[0] = 0;
+    j.counts.removed[0] = 4;
+    j.counts.removed[1] = 7;
+    mask_part v = mask_view(j, first, 25, second, 25);
+    EXPECT(ACCEPTED(v) && v.area == 2 && v.length == 25);
+    mask_figures_answer f = mask_figures(j, first, 25, second, 25);
+    EXPECT(ACCEPTED(f) && f.balance == -9 && f.cover == 0);
+    for (size_t n = 0; n < 4 * MASK_MAX_PARTS; n++) {
+        mask_job bad = j;
+        ++*part_field(&bad, n);
+        mask_job before = bad;
+        EXPECT(REFUSED(mask_view(bad, first, 32, second, 32), MASK_UNSOUND, 0));
+        EXPECT(REFUSED(mask_figures(bad, first, 32, second, 32), MASK_UNSOUND, 0));
+        EXPECT(REFUSED(mask_run(&bad, first, 32, second, 32), MASK_UNSOUND, 0) && same_job(bad, before));
+    }
+    for (size_t n = 0; n < 4; n++) {
+        static const size_t numbers[] = {0, 1, 3, MASK_MAX_PARTS + 1};
+        mask_job bad = j;
+        bad.strip.parts = numbers[n];
+        EXPECT(REFUSED(mask_view(bad, first, 32, second, 32), MASK_UNSOUND, 0));
+    }
+    /* the sum of the parts is right only where it wraps */
+    j.counts.added[0] = (size_t)-1;
+    j.counts.added[1] = 3;
+    EXPECT(REFUSED(mask_view(j, first, 32, second, 32), MASK_UNSOUND, 0));
+}
+
+/* Cover is to the nearest thousandth, and an exact half goes to the even one. The largest image, and the largest strip. */
 static void covers(void) {
     static const struct {
         size_t width, height, black, cover;
@@ -454,16 +557,25 @@ static void covers(void) {
         {4, 4, 1, 62},           {4, 4, 3, 188},           {4, 4, 15, 938},         {20, 20, 1, 2},
         {1, 3, 1, 333},          {1, 3, 2, 667},           {7, 1, 0, 0},            {7, 1, 7, 1000},
         {256, 256, 32, 0},       {256, 256, 33, 1},        {256, 256, 4096, 62},    {256, 256, 12288, 188},
-        {256, 256, 65535, 1000}, {256, 256, 65536, 1000},
+        {256, 256, 65535, 1000}, {256, 256, 65536, 1000},  {256, 4096, 524, 0},     {256, 4096, 525, 1},
+        {256, 4096, 65536, 62},  {256, 4096, 196608, 188}, {256, 4096, 1048576, 1000},
     };
-    static uint8_t first[65536];
-    static uint8_t second[65536];
+    static uint8_t first[MASK_MAX_STRIP_PIXELS];
+    static uint8_t second[MASK_MAX_STRIP_PIXELS];
+    size_t heights[MASK_MAX_PARTS];
+    for (size_t i = 0; i < MASK_MAX_PARTS; i++) {
+        heights[i] = MASK_MAX_SIDE;
+    }
     for (size_t i = 0; i < sizeof cases / sizeof *cases; i++) {
         mask_job j = {0};
         j.stage = MASK_STAGE_LOADED;
         j.width = cases[i].width;
         j.height = cases[i].height;
         j.table = ring();
+        one_part(&j);
+        if (j.height == MASK_MAX_ROWS) {
+            j.strip = strip_of(MASK_MAX_SIDE, MASK_MAX_PARTS, heights);
+        }
         memset(first, 0, sizeof first);
         memset(first, 1, cases[i].black);
         mask_figures_answer f = mask_figures(j, first, sizeof first, second, sizeof second);
@@ -478,6 +590,9 @@ static void whole_job(const three_files *files, int by_run) {
     uint8_t out[16];
     mask_job j = {0};
     mask_job zero = {0};
+    const size_t height = 5;
+    mask_strip whole = strip_of(5, 1, &height); /* a single image is one part */
+    mask_part_counts counts = {0};
     memset(first, FILL, sizeof first);
     memset(second, FILL, sizeof second);
     memset(out, FILL, sizeof out);
@@ -486,11 +601,14 @@ static void whole_job(const three_files *files, int by_run) {
     EXPECT(ACCEPTED(l));
     EXPECT(j.stage == 1 && j.width == 5 && j.height == 5 && j.passes == 0 && j.added == 0 && j.removed == 0);
     EXPECT(same_table(j.table, ring()) && all(second, 32, FILL) && all(first + 25, 7, FILL));
+    EXPECT(same_strip(j.strip, whole) && same_counts(j.counts, counts));
     EXPECT(all(first, 12, 0) && first[12] == 1 && all(first + 13, 12, 0));
     mask_part v = mask_view(j, first, 30, second, 31);
     EXPECT(ACCEPTED(v) && v.area == 1 && v.length == 25);
     EXPECT(REFUSED(mask_load(&j, ring(), dot_file, sizeof dot_file, first, 30, second, 31), MASK_NOT_COLLECTED, 0));
     EXPECT(REFUSED(load_three(&j, ring(), bad_files, first, 30, second, 31), MASK_NOT_COLLECTED, 0));
+    EXPECT(REFUSED(load_dot(&j, ring(), first, 30, second, 31), MASK_NOT_COLLECTED, 0));
+    counts.removed[0] = 1;
     mask_file_length c = mask_collect(&j, first, 30, second, 31, out, 16);
     EXPECT(REFUSED(c, MASK_NOT_STABLE, 0) && c.length == 0 && j.stage == 1);
     if (by_run) {
@@ -506,6 +624,7 @@ static void whole_job(const three_files *files, int by_run) {
         EXPECT(ACCEPTED(p) && p.stable == 1);
     }
     EXPECT(j.stage == 2 && j.width == 5 && j.height == 5 && j.passes == 1 && j.added == 0 && j.removed == 1);
+    EXPECT(same_strip(j.strip, whole) && same_counts(j.counts, counts));
     EXPECT(same_table(j.table, ring()) && all(first, 25, 0) && all(first + 25, 7, FILL));
     EXPECT(all(second, 25, 0) && all(second + 25, 7, FILL));
     v = mask_view(j, first, 30, second, 31);
@@ -518,6 +637,113 @@ static void whole_job(const three_files *files, int by_run) {
     c = mask_collect(&j, first, 30, second, 31, out, 16);
     EXPECT(ACCEPTED(c) && c.length == 12 && memcmp(out, blank_file, 12) == 0 && all(out + 12, 4, FILL));
     EXPECT(same_job(j, zero) && all(second, 25, 0) && all(second + 25, 7, FILL));
+}
+
+/* The strip of two parts: one pass removes the dot, though it is at the edge of its part, and the first part says so. */
+static void strip_job(int by_run) {
+    static const uint8_t files[] = {'P', '4', '\n', '5', ' ', '3', '\n', 0, 0, 0, 'P', '4', '\n', '5', ' ', '2', '\n', 0, 0};
+    uint8_t first[32];
+    uint8_t second[32];
+    uint8_t out[24];
+    mask_job j = {0};
+    mask_job zero = {0};
+    mask_part_counts counts = {0};
+    mask_strip parts = strip_of(5, 2, two_heights);
+    memset(first, FILL, sizeof first);
+    memset(second, FILL, sizeof second);
+    memset(out, FILL, sizeof out);
+    mask_checked l = load_dot(&j, ring(), first, 30, second, 31);
+    EXPECT(ACCEPTED(l));
+    EXPECT(j.stage == 1 && j.width == 5 && j.height == 5 && j.passes == 0 && j.added == 0 && j.removed == 0);
+    EXPECT(same_table(j.table, ring()) && same_strip(j.strip, parts) && same_counts(j.counts, counts));
+    EXPECT(memcmp(first, dot_pixels, 25) == 0 && all(first + 25, 7, FILL) && all(second, 32, FILL));
+    EXPECT(REFUSED(load_dot(&j, ring(), first, 30, second, 31), MASK_NOT_COLLECTED, 0));
+    counts.removed[0] = 1;
+    if (!by_run) {
+        mask_progress p = mask_pass(&j, first, 30, second, 31);
+        EXPECT(ACCEPTED(p) && p.stable == 0 && j.stage == 1 && j.passes == 1 && j.added == 0 && j.removed == 1);
+        EXPECT(same_counts(j.counts, counts) && all(second, 25, 0) && first[12] == 1);
+    }
+    mask_progress p = by_run ? mask_run(&j, first, 30, second, 31) : mask_pass(&j, first, 30, second, 31);
+    EXPECT(ACCEPTED(p) && p.stable == 1);
+    EXPECT(j.stage == 2 && j.width == 5 && j.height == 5 && j.passes == 1 && j.added == 0 && j.removed == 1);
+    EXPECT(same_table(j.table, ring()) && same_strip(j.strip, parts) && same_counts(j.counts, counts));
+    EXPECT(all(first, 25, 0) && all(first + 25, 7, FILL) && all(second, 25, 0) && all(second + 25, 7, FILL));
+    mask_part v = mask_view(j, first, 30, second, 31);
+    EXPECT(ACCEPTED(v) && v.area == 2 && v.length == 25);
+    mask_figures_answer f = mask_figures(j, first, 30, second, 31);
+    EXPECT(ACCEPTED(f) && f.balance == -1 && f.cover == 0);
+    mask_job before = j;
+    mask_file_length c = mask_collect(&j, first, 30, second, 31, out, 18);
+    EXPECT(REFUSED(c, MASK_AREA_SHORT, 0) && c.length == 0 && same_job(j, before) && all(out, 24, FILL));
+    c = mask_collect(&j, first, 30, second, 31, out, 24);
+    EXPECT(ACCEPTED(c) && c.length == 19 && memcmp(out, files, sizeof files) == 0 && all(out + 19, 5, FILL));
+    EXPECT(same_job(j, zero) && all(second, 25, 0) && all(second + 25, 7, FILL));
+}
+
+/* The number of parts, then the sizes, the widths, the bytes and the areas. What is past the parts is not looked at. */
+static void strip_refused(void) {
+    static const struct {
+        mask_strip strip;
+        size_t bytes;
+        uint8_t byte_20;
+        size_t first_length, second_length;
+        uint32_t number;
+        size_t place;
+    } cases[] = {
+        {{0, {5}, {5}}, 25, 0, 32, 32, MASK_PARTS, 0},
+        {{17, {5, 0}, {3, 2}}, 24, 2, 1, 1, MASK_PARTS, 0},
+        {{3, {5, 0, 5}, {1, 2, 300}}, 24, 2, 1, 1, MASK_SIZE_RANGE, 2},
+        {{3, {5, 4, 5}, {1, 2, 257}}, 25, 0, 32, 32, MASK_SIZE_RANGE, 3},
+        {{3, {5, 4, 6}, {1, 2, 2}}, 24, 2, 1, 1, MASK_PARTS, 2},
+        {{1, {257}, {5}}, 25, 0, 32, 32, MASK_SIZE_RANGE, 1},
+        {{2, {5, 5}, {3, 2}}, 24, 2, 1, 1, MASK_RASTER_LENGTH, 0},
+        {{2, {5, 5, 4}, {3, 2, 300}}, 25, 2, 1, 1, MASK_PIXEL_VALUE, 4},
+        {{2, {5, 5}, {3, 2}}, 25, 0, 24, 32, MASK_AREA_SHORT, 0},
+        {{2, {5, 5}, {3, 2}}, 25, 0, 32, 24, MASK_AREA_SHORT, 0},
+    };
+    uint8_t pixels[25] = {0};
+    uint8_t first[32];
+    uint8_t second[32];
+    mask_job j = {0};
+    mask_job zero = {0};
+    memset(first, FILL, sizeof first);
+    memset(second, FILL, sizeof second);
+    for (size_t i = 0; i < sizeof cases / sizeof *cases; i++) {
+        pixels[20] = cases[i].byte_20;
+        mask_checked l = mask_load_strip(&j, ring(), cases[i].strip, pixels, cases[i].bytes, first, cases[i].first_length,
+                                         second, cases[i].second_length);
+        EXPECT(REFUSED(l, cases[i].number, cases[i].place));
+        EXPECT(same_job(j, zero) && all(first, 32, FILL) && all(second, 32, FILL));
+    }
+}
+
+/* Sixteen parts of one row: each place of the argument is seen, and past a number of parts none is. */
+static void strip_places(void) {
+    static const uint8_t pixels[32] = {0};
+    uint8_t first[32];
+    uint8_t second[32];
+    size_t heights[MASK_MAX_PARTS];
+    for (size_t i = 0; i < MASK_MAX_PARTS; i++) {
+        heights[i] = 1;
+    }
+    mask_strip whole = strip_of(2, MASK_MAX_PARTS, heights);
+    for (size_t i = 0; i < MASK_MAX_PARTS; i++) {
+        mask_job j = {0};
+        mask_strip s = whole;
+        s.heights[i] = 0;
+        EXPECT(REFUSED(mask_load_strip(&j, ring(), s, pixels, 32, first, 32, second, 32), MASK_SIZE_RANGE, i + 1));
+        s.heights[i] = 1;
+        s.widths[i] = 1;
+        EXPECT(REFUSED(mask_load_strip(&j, ring(), s, pixels, 32, first, 32, second, 32), MASK_PARTS, i == 0 ? 2 : i + 1));
+        s.heights[i] = 257;
+        s.parts = i;
+        mask_checked l = mask_load_strip(&j, ring(), s, pixels, 2 * i, first, 32, second, 32);
+        EXPECT(i == 0 ? REFUSED(l, MASK_PARTS, 0) : ACCEPTED(l) && same_strip(j.strip, strip_of(2, i, heights)));
+    }
+    mask_job j = {0};
+    mask_checked l = mask_load_strip(&j, ring(), whole, pixels, 32, first, 32, second, 32);
+    EXPECT(ACCEPTED(l) && j.width == 2 && j.height == 16 && same_strip(j.strip, whole));
 }
 
 /* The first file that is bad speaks, then the first whose size differs, then a short area. Nothing is written. */
@@ -579,17 +805,20 @@ static void three_accepted(void) {
     EXPECT(all(first + 16, 16, FILL) && all(second, 32, FILL));
 }
 
-/* A record by hand whose next pass would take its counts above the pixels: refused, and nothing is written. */
-static void pass_clause(void) {
+/* A record by hand, of an image or of a strip, whose next pass would take its counts above the pixels: refused, and nothing
+   is written. */
+static void pass_clause(int strip) {
     uint8_t first[32];
     uint8_t second[32];
     mask_job j = {0};
     memset(first, FILL, sizeof first);
     memset(second, FILL, sizeof second);
-    mask_checked l = mask_load(&j, ring(), dot_file, sizeof dot_file, first, 32, second, 32);
+    mask_checked l = strip ? load_dot(&j, ring(), first, 32, second, 32)
+                           : mask_load(&j, ring(), dot_file, sizeof dot_file, first, 32, second, 32);
     EXPECT(ACCEPTED(l));
-    j.added = 20;
-    j.removed = 5;
+    j.added = j.counts.added[0] = 20;
+    j.removed = j.counts.removed[strip] = 5;
+    EXPECT(ACCEPTED(mask_view(j, first, 32, second, 32)));
     mask_job before = j;
     mask_progress p = mask_pass(&j, first, 32, second, 32);
     EXPECT(REFUSED(p, MASK_UNSOUND, 0) && p.stable == 0 && same_job(j, before) && all(second, 32, FILL));
@@ -608,14 +837,19 @@ int main(void) {
     fields();
     empty();
     by_value();
+    parts_by_value();
     covers();
+    strip_refused();
+    strip_places();
     three_refused();
     three_accepted();
     for (int by_run = 0; by_run < 2; by_run++) {
         whole_job(NULL, by_run);
         whole_job(&dots, by_run);
         whole_job(&two_dots, by_run);
+        strip_job(by_run);
     }
-    pass_clause();
+    pass_clause(0);
+    pass_clause(1);
     return failures != 0;
 }

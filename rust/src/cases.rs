@@ -1,6 +1,6 @@
-//! Tables and images for tests and benchmark: the tables of 01 and 02, random accepted ones, and kinds of images.
+//! Tables and images for tests and benchmark: the tables of 01 and 02, random accepted ones, kinds of images, and cuts into parts.
 
-use crate::record::{TableRecord, MAX_RANKS};
+use crate::record::{TableRecord, MAX_PARTS, MAX_RANKS, MAX_SIDE};
 use crate::reference::image::Image;
 use crate::reference::pass::median_elements;
 use crate::reference::table::{offsets, Offset};
@@ -306,4 +306,22 @@ pub fn random_image(width: usize, height: usize, random: &mut Random) -> Image {
     }
     let kind = *random.choose(&Kind::ALL);
     kind.image(width, height, random)
+}
+
+/// A random cut of 1 to 4096 rows into parts: their heights, each 1 to 256. Often one is high and others have a row or two.
+pub fn random_cut(rows: usize, random: &mut Random) -> Vec<usize> {
+    let least = rows.div_ceil(MAX_SIDE);
+    let parts = least + random.below(MAX_PARTS.min(rows) + 1 - least);
+    let (mut heights, mut left) = (Vec::new(), rows);
+    for behind in (0..parts).rev() {
+        let low = left.saturating_sub(behind * MAX_SIDE).max(1);
+        let high = MAX_SIDE.min(left - behind);
+        let height = low + random.below(high + 1 - low);
+        heights.push(height);
+        left -= height;
+    }
+    if random.percent(50) {
+        heights.reverse();
+    }
+    heights
 }

@@ -24,7 +24,7 @@ pub struct Filter {
 const NOT_OPENED: u8 = 0;
 
 impl Filter {
-    /// For an accepted table and a size from 1 × 1 to 256 × 256.
+    /// For an accepted table and a size from 1 × 1 to 256 × 4096, a strip's.
     pub fn new(table: &TableRecord, width: usize, height: usize) -> Filter {
         let elements = lists(&table.elements[..table.count]);
         let step = |&(dx, dy): &Offset| dy as isize * width as isize + dx as isize;

@@ -1,10 +1,10 @@
 //! The C interface, as `include/mask_cleaner.h` declares it. A slice passes as pointer and length.
 //!
-//! A pass or run uses some 56 KB of stack, and the header asks for 128 KB: a main thread (8 MB) and the threads of
-//! tests (2 MB) have it; a thread made with a smaller stack may not.
+//! A pass or run uses some 56 KB of stack, and the header asks for 128 KB, for strips 256: a main thread (8 MB) and the
+//! threads of tests (2 MB) have it; a thread made with a smaller stack may not.
 
-use crate::record::{JobRecord, TableRecord};
-use std::mem::size_of;
+use crate::record::{JobRecord, PartCounts, StripRecord, TableRecord};
+use std::mem::{offset_of, size_of};
 
 /// What every answer starts with.
 #[repr(C)]
@@ -58,7 +58,12 @@ pub struct Figures {
 
 // The sizes of the header's records and answers.
 const _: () = assert!(size_of::<TableRecord>() == 288);
-const _: () = assert!(size_of::<JobRecord>() == 336);
+const _: () = assert!(size_of::<StripRecord>() == 264);
+const _: () = assert!(size_of::<PartCounts>() == 256);
+const _: () = assert!(size_of::<JobRecord>() == 856);
+const _: () = assert!(offset_of!(JobRecord, table) == 48);
+const _: () = assert!(offset_of!(JobRecord, strip) == 336);
+const _: () = assert!(offset_of!(JobRecord, counts) == 600);
 const _: () = assert!(size_of::<Verdict>() == 32);
 const _: () = assert!(size_of::<TableRead>() == 320);
 const _: () = assert!(size_of::<ImageSize>() == 48);
@@ -112,6 +117,17 @@ extern "C" {
         two_length: usize,
         three: *const u8,
         three_length: usize,
+        first: *mut u8,
+        first_length: usize,
+        second: *const u8,
+        second_length: usize,
+    ) -> Verdict;
+    pub fn mask_load_strip(
+        job: *mut JobRecord,
+        table: TableRecord,
+        strip: StripRecord,
+        pixels: *const u8,
+        pixels_length: usize,
         first: *mut u8,
         first_length: usize,
         second: *const u8,

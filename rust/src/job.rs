@@ -1,7 +1,7 @@
 //! For everyday use: a table that was accepted, and a job with its own record and areas.
 
 use crate::library;
-use crate::record::{Figures, JobRecord, Progress, Refusal, TableRecord};
+use crate::record::{Figures, JobRecord, Progress, Refusal, StripRecord, TableRecord};
 use crate::record::{MAX_RANKS, MAX_SIDE, PLACES};
 
 /// The longest table file: the leading 0, both counts, and all elements and persistent elements of four bytes each.
@@ -46,12 +46,12 @@ pub struct Job {
 }
 
 impl Job {
-    /// An empty job, with room for the largest image.
+    /// An empty job, with room for the largest single image.
     pub fn new() -> Job {
         Job::for_pixels(MAX_SIDE * MAX_SIDE)
     }
 
-    /// An empty job, with room for so many pixels.
+    /// An empty job, with room for so many pixels: a strip has up to 16 × 256 × 256.
     pub fn for_pixels(pixels: usize) -> Job {
         Job {
             record: JobRecord::EMPTY,
@@ -83,6 +83,21 @@ impl Job {
         library::load_three(record, &table.0, files, first, second)
     }
 
+    /// Loads a strip, whose parts are cleaned as one image. The pixels are those of all parts, one part after the other.
+    pub fn load_strip(
+        &mut self,
+        table: &Table,
+        strip: &StripRecord,
+        pixels: &[u8],
+    ) -> Result<(), Refusal> {
+        let Job {
+            record,
+            first,
+            second,
+        } = self;
+        library::load_strip(record, &table.0, strip, pixels, first, second)
+    }
+
     pub fn pass(&mut self) -> Result<Progress, Refusal> {
         library::pass(&mut self.record, &mut self.first, &mut self.second)
     }
@@ -101,12 +116,12 @@ impl Job {
         library::figures(&self.record, &self.first, &self.second)
     }
 
-    /// The image file of a stable image; the job is empty afterwards.
+    /// The image file of a stable image; of a strip, the files of its parts one after another. The job is empty afterwards.
     pub fn collect(&mut self) -> Result<Vec<u8>, Refusal> {
-        let mut file = vec![0; MAX_IMAGE_FILE];
-        let length = library::collect(&mut self.record, &self.first, &self.second, &mut file)?;
-        file.truncate(length);
-        Ok(file)
+        let mut files = vec![0; self.record.strip.parts * MAX_IMAGE_FILE];
+        let length = library::collect(&mut self.record, &self.first, &self.second, &mut files)?;
+        files.truncate(length);
+        Ok(files)
     }
 }
 

@@ -2,10 +2,12 @@
 //!
 //! Each function is one call of `include/mask_cleaner.h`. After a refusal all that was lent is unchanged,
 //! but for a run that meets a pass refused as unsound: it keeps the passes before.
-//! A thread that calls needs 128 KB of stack.
+//! A thread that calls needs 128 KB of stack, and 256 KB for strips.
 
 use crate::ffi;
-use crate::record::{Figures, JobRecord, Progress, Reason, Refusal, TableRecord, MAX_RANKS};
+use crate::record::{
+    Figures, JobRecord, Progress, Reason, Refusal, StripRecord, TableRecord, MAX_RANKS,
+};
 
 pub fn check_table(table: &TableRecord) -> Result<(), Refusal> {
     // SAFETY: the record passes by value.
@@ -128,6 +130,32 @@ pub fn load_three(
     verdict(answer, true)
 }
 
+/// Loads a strip; the pixels are those of all its parts, one part after the other.
+pub fn load_strip(
+    record: &mut JobRecord,
+    table: &TableRecord,
+    strip: &StripRecord,
+    pixels: &[u8],
+    first: &mut [u8],
+    second: &[u8],
+) -> Result<(), Refusal> {
+    // SAFETY: pointers and lengths are those of slices; nobody else uses the record or the first area.
+    let answer = unsafe {
+        ffi::mask_load_strip(
+            record,
+            *table,
+            *strip,
+            pixels.as_ptr(),
+            pixels.len(),
+            first.as_mut_ptr(),
+            first.len(),
+            second.as_ptr(),
+            second.len(),
+        )
+    };
+    verdict(answer, true)
+}
+
 pub fn pass(
     record: &mut JobRecord,
     first: &mut [u8],
@@ -208,7 +236,7 @@ pub fn figures(record: &JobRecord, first: &[u8], second: &[u8]) -> Result<Figure
     })
 }
 
-/// Writes the image file to the output and empties the record; gives the file's length.
+/// Writes the file of each part to the output, one after another, and empties the record; gives the length of all.
 pub fn collect(
     record: &mut JobRecord,
     first: &[u8],

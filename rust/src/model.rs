@@ -1,9 +1,10 @@
 //! 01, "Lists of calls": the book beside a list. It sees the calls' arguments and the areas' lengths,
 //! never the record or the areas' bytes.
 
-use crate::record::{Figures, Progress, Reason, Refusal, TableRecord};
+use crate::record::{Figures, PartCounts, Progress, Reason, Refusal, StripRecord, TableRecord};
 use crate::reference::image::{self, Image};
 use crate::reference::pass::{changes, one_pass};
+use crate::reference::strip::{self, Strip};
 use crate::reference::table;
 
 /// A call of a list, with its arguments beside record and areas.
@@ -18,6 +19,11 @@ pub enum Call {
         table: TableRecord,
         files: [Vec<u8>; 3],
     },
+    LoadStrip {
+        table: TableRecord,
+        strip: StripRecord,
+        pixels: Vec<u8>,
+    },
     Pass,
     Run,
     View,
@@ -27,7 +33,7 @@ pub enum Call {
     },
 }
 
-/// What an accepted call says; for collect, the file it writes.
+/// What an accepted call says; for collect, what it writes: the file, or the files of a strip.
 #[derive(Clone, Debug, PartialEq, Eq)]
 pub enum Answer {
     Loaded,
@@ -37,7 +43,7 @@ pub enum Answer {
     File(Vec<u8>),
 }
 
-/// Empty, or a table, a row of images and perhaps a mark.
+/// Empty, or a table, a row of images with their parts and perhaps a mark.
 #[derive(Clone, Debug, Default)]
 pub struct Book {
     pub entry: Option<Entry>,
@@ -48,6 +54,8 @@ pub struct Entry {
     pub table: TableRecord,
     /// At least one.
     pub images: Vec<Image>,
+    /// Of their parts; one where the image is single.
+    pub heights: Vec<usize>,
     /// The mark.
     pub stable: bool,
 }
@@ -56,11 +64,19 @@ impl Book {
     /// Enters a call and gives its answer. A refused call leaves the book alone.
     pub fn enter(&mut self, call: &Call, areas: [usize; 2]) -> Result<Answer, Refusal> {
         match call {
-            Call::Load { table, file } => self.load(table, image::parse(file), areas),
+            Call::Load { table, file } => {
+                self.load(table, image::parse(file).map(Strip::single), areas)
+            }
             Call::LoadThree { table, files } => {
                 let files = files.each_ref().map(Vec::as_slice);
-                self.load(table, image::parse_three(files), areas)
+                let image = image::parse_three(files);
+                self.load(table, image.map(Strip::single), areas)
             }
+            Call::LoadStrip {
+                table,
+                strip,
+                pixels,
+            } => self.load(table, strip::check(strip, pixels), areas),
             Call::Pass => Ok(Answer::Progress(self.entry_mut()?.pass())),
             Call::Run => Ok(Answer::Progress(self.entry_mut()?.run())),
             Call::View => Ok(Answer::Pixels(self.entry_mut()?.last().pixels.clone())),
@@ -73,24 +89,25 @@ impl Book {
         self.entry.as_mut().ok_or(Refusal::of(Reason::Empty))
     }
 
-    /// Takes in the image, of one file or of three.
+    /// Takes in the image, of one file or of three, or the strip.
     fn load(
         &mut self,
         table: &TableRecord,
-        image: Result<Image, Refusal>,
+        image: Result<Strip, Refusal>,
         areas: [usize; 2],
     ) -> Result<Answer, Refusal> {
         if self.entry.is_some() {
             return Err(Refusal::of(Reason::NotCollected));
         }
         table::check(table)?;
-        let image = image?;
+        let Strip { image, heights } = image?;
         if areas.into_iter().any(|length| length < image.pixels.len()) {
             return Err(Refusal::of(Reason::Short));
         }
         self.entry = Some(Entry {
             table: *table,
             images: vec![image],
+            heights,
             stable: false,
         });
         Ok(Answer::Loaded)
@@ -101,12 +118,12 @@ impl Book {
         if !entry.stable {
             return Err(Refusal::of(Reason::NotStable));
         }
-        let file = image::file_of(entry.last());
-        if out_length < file.len() {
+        let files = strip::files_of(entry.last(), &entry.heights);
+        if out_length < files.len() {
             return Err(Refusal::of(Reason::Short));
         }
         self.entry = None;
-        Ok(Answer::File(file))
+        Ok(Answer::File(files))
     }
 }
 
@@ -130,6 +147,24 @@ impl Entry {
             let (more, fewer) = changes(from, to);
             (added + more, removed + fewer)
         })
+    }
+
+    /// The same of each part, in its own rows.
+    pub fn changed_in_parts(&self) -> PartCounts {
+        let parts = self.heights.iter().enumerate();
+        let part_of_row: Vec<usize> = parts.flat_map(|(part, rows)| vec![part; *rows]).collect();
+        let mut counts = PartCounts::NONE;
+        for (from, to) in self.steps() {
+            for (i, pair) in from.pixels.iter().zip(&to.pixels).enumerate() {
+                let part = part_of_row[i / from.width];
+                match pair {
+                    (0, 1) => counts.added[part] += 1,
+                    (1, 0) => counts.removed[part] += 1,
+                    _ => {}
+                }
+            }
+        }
+        counts
     }
 
     fn pass(&mut self) -> Progress {

@@ -8,8 +8,11 @@ pub const PLACES: usize = 64;
 /// The places for persistent elements in a table record.
 pub const MAX_RANKS: usize = 4;
 
-/// The largest width and the largest height of an image.
+/// The largest width and the largest height of an image, and of each part of a strip.
 pub const MAX_SIDE: usize = 256;
+
+/// The most parts of a strip.
+pub const MAX_PARTS: usize = 16;
 
 /// A table as 01's record; any values may stand in it.
 #[repr(C)]
@@ -45,6 +48,53 @@ impl TableRecord {
     }
 }
 
+/// A strip (T-08): its number of parts, and the width and height of each; any values may stand in it.
+#[repr(C)]
+#[derive(Clone, Copy, Debug, PartialEq, Eq)]
+pub struct StripRecord {
+    pub parts: usize,
+    /// As an argument of a load, what stands past the parts is not looked at; in a job's record it is zero.
+    pub widths: [usize; MAX_PARTS],
+    /// Likewise.
+    pub heights: [usize; MAX_PARTS],
+}
+
+impl StripRecord {
+    pub const EMPTY: StripRecord = StripRecord {
+        parts: 0,
+        widths: [0; MAX_PARTS],
+        heights: [0; MAX_PARTS],
+    };
+
+    /// At most 16 parts of one width. Nothing is checked.
+    pub fn new(width: usize, heights: &[usize]) -> StripRecord {
+        let mut record = StripRecord {
+            parts: heights.len(),
+            ..StripRecord::EMPTY
+        };
+        record.widths[..heights.len()].fill(width);
+        record.heights[..heights.len()].copy_from_slice(heights);
+        record
+    }
+}
+
+/// Of each part, the pixels of its own rows that went from 0 to 1, and from 1 to 0.
+#[repr(C)]
+#[derive(Clone, Copy, Debug, PartialEq, Eq)]
+pub struct PartCounts {
+    /// Zero past the parts.
+    pub added: [usize; MAX_PARTS],
+    /// Likewise.
+    pub removed: [usize; MAX_PARTS],
+}
+
+impl PartCounts {
+    pub const NONE: PartCounts = PartCounts {
+        added: [0; MAX_PARTS],
+        removed: [0; MAX_PARTS],
+    };
+}
+
 pub const STAGE_EMPTY: u8 = 0;
 pub const STAGE_LOADED: u8 = 1;
 pub const STAGE_STABLE: u8 = 2;
@@ -60,6 +110,9 @@ pub struct JobRecord {
     pub added: usize,
     pub removed: usize,
     pub table: TableRecord,
+    /// A single image is one part.
+    pub strip: StripRecord,
+    pub counts: PartCounts,
 }
 
 impl JobRecord {
@@ -71,7 +124,21 @@ impl JobRecord {
         added: 0,
         removed: 0,
         table: TableRecord::EMPTY,
+        strip: StripRecord::EMPTY,
+        counts: PartCounts::NONE,
     };
+
+    /// A loaded image, or strip, of at most 16 parts of one width. Nothing is checked.
+    pub fn loaded(table: &TableRecord, width: usize, heights: &[usize]) -> JobRecord {
+        JobRecord {
+            stage: STAGE_LOADED,
+            width,
+            height: heights.iter().sum(),
+            table: *table,
+            strip: StripRecord::new(width, heights),
+            ..JobRecord::EMPTY
+        }
+    }
 }
 
 /// What an accepted pass or run says.
@@ -113,11 +180,12 @@ pub enum Reason {
     Empty = 16,
     NotStable = 17,
     RankCount = 18,
+    Parts = 23,
     SizesDiffer = 26,
 }
 
 impl Reason {
-    pub const ALL: [Reason; 19] = [
+    pub const ALL: [Reason; 20] = [
         Reason::BytesEnd,
         Reason::Groups,
         Reason::Count,
@@ -136,6 +204,7 @@ impl Reason {
         Reason::Empty,
         Reason::NotStable,
         Reason::RankCount,
+        Reason::Parts,
         Reason::SizesDiffer,
     ];
 
@@ -168,6 +237,9 @@ impl Reason {
             Reason::NotStable => "the image is not yet stable",
             Reason::RankCount => {
                 "the number of persistent elements is not 1 to 4, or not 2 to 4 in the file form of several"
+            }
+            Reason::Parts => {
+                "the number of parts is not 1 to 16, or a part does not have the width of the first"
             }
             Reason::SizesDiffer => "an image does not have the size of the first",
         }

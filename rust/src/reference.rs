@@ -2,10 +2,12 @@
 //!
 //! - [`table`]: masks as offsets, the check of a record, the file's reader and writer.
 //! - [`image`]: images, the strict PBM reader and writer, the majority of three.
+//! - [`strip`]: strips, the check of their parts, the parts' files.
 //! - [`pass`]: covered, one pass, the plain rule, the preview.
-//! - [`job`]: load, load of three files, pass, run, view, figures, collect.
+//! - [`job`]: load, load of three files and of a strip, pass, run, view, figures, collect.
 
 pub mod image;
 pub mod job;
 pub mod pass;
+pub mod strip;
 pub mod table;

@@ -5,20 +5,14 @@ mod common;
 use common::{report, State};
 use mask_cleaner::cases::ring;
 use mask_cleaner::model::{Answer, Call};
-use mask_cleaner::record::{Figures, JobRecord, STAGE_LOADED};
+use mask_cleaner::record::{Figures, JobRecord};
 
 /// Cover of a loaded image whose first `black` pixels are black.
 fn cover(width: usize, height: usize, black: usize) -> usize {
     let pixels = width * height;
     let mut state = State::empty(vec![0; pixels], vec![0; pixels]);
     state.first[..black].fill(1);
-    state.record = JobRecord {
-        stage: STAGE_LOADED,
-        width,
-        height,
-        table: ring(),
-        ..JobRecord::EMPTY
-    };
+    state.record = JobRecord::loaded(&ring(), width, &[height]);
     match state.apply_both(&Call::Figures, &mut []) {
         Ok(Answer::Figures(Figures { balance: 0, cover })) => cover,
         other => panic!("{other:?}"),

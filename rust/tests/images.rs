@@ -6,7 +6,7 @@ use common::{assert_reached, cleared, fill_unused, reasons, report, State, Tally
 use mask_cleaner::cases::{random_image, ring, Random};
 use mask_cleaner::library;
 use mask_cleaner::model::Call;
-use mask_cleaner::record::{JobRecord, Reason, Refusal, TableRecord, STAGE_LOADED};
+use mask_cleaner::record::{JobRecord, Reason, Refusal, TableRecord};
 use mask_cleaner::reference::image::{self as reference, Image};
 
 /// Sides around every limit of a byte and of the rules.
@@ -346,13 +346,7 @@ fn every_three(random: &mut Random) -> Vec<[Vec<u8>; 3]> {
 
 /// Whatever the files are: 14, 15 and the table's refusal come before theirs.
 fn assert_refused_before(state: &State, files: &[Vec<u8>; 3]) {
-    let loaded = JobRecord {
-        stage: STAGE_LOADED,
-        width: 1,
-        height: 1,
-        table: ring(),
-        ..JobRecord::EMPTY
-    };
+    let loaded = JobRecord::loaded(&ring(), 1, &[1]);
     let unsound = JobRecord { stage: 3, ..loaded };
     let apart = TableRecord::new(&[2048, 8192], &[12_288]);
     for (record, numbers) in [

@@ -5,13 +5,13 @@ mod common;
 use common::{reasons, report, State, Stock, Tally};
 use mask_cleaner::cases::Random;
 use mask_cleaner::model::{Answer, Book, Call, Entry};
-use mask_cleaner::record::{Reason, Refusal, STAGE_STABLE};
+use mask_cleaner::record::{JobRecord, Reason, Refusal, StripRecord, STAGE_STABLE};
 
 /// What the record must say after a list, by the book.
 fn assert_book(state: &State, book: &Book) {
     let State { record, .. } = state;
     let Some(entry) = &book.entry else {
-        assert_eq!(*record, mask_cleaner::record::JobRecord::EMPTY);
+        assert_eq!(*record, JobRecord::EMPTY);
         return;
     };
     let last = entry.last();
@@ -21,6 +21,9 @@ fn assert_book(state: &State, book: &Book) {
     assert_eq!((record.width, record.height), (last.width, last.height));
     assert_eq!(record.passes, entry.steps().count());
     assert_eq!((record.added, record.removed), entry.changed());
+    let parts = StripRecord::new(last.width, &entry.heights);
+    assert_eq!(record.strip, parts);
+    assert_eq!(record.counts, entry.changed_in_parts());
     let first = &entry.images[0];
     assert_eq!(last.black(), first.black() + record.added - record.removed);
     assert_single_changes(entry);
@@ -38,22 +41,26 @@ fn assert_single_changes(entry: &Entry) {
     assert!(entry.steps().count() <= entry.pixels());
 }
 
-/// What lists gave: the answers of all calls, those of loads of three files among them, and the number of loads and changing steps.
+/// What lists gave: the answers of all calls, those of loads of three files and of strips among them, the number of loads and changing
+/// steps, and that of accepted collects of several parts.
 #[derive(Default)]
 struct Given {
     calls: Tally,
     threes: Tally,
+    strips: Tally,
     steps: usize,
+    collected: usize,
 }
 
 impl Given {
     fn report(&self, title: &str) {
         report(&format!(
-            "{title}, with {} loads and changing steps",
-            self.steps
+            "{title}, with {} loads and changing steps, and {} collects of several parts",
+            self.steps, self.collected
         ));
         self.calls.report("calls in them");
         self.threes.report("loads of three files among these");
+        self.strips.report("loads of strips among these");
     }
 }
 
@@ -75,11 +82,17 @@ fn list(random: &mut Random, given: &mut Given, longest: usize, most: usize) {
         let mut out = random.output(out_length);
         let before = out.clone();
         let steps_before = book_steps(&book);
+        let several = state.record.strip.parts > 1;
         let expected = book.enter(&call, state.areas());
         let answer = given.calls.note(state.apply_both(&call, &mut out));
         assert_eq!(answer, expected, "{call:?}");
-        if matches!(call, Call::LoadThree { .. }) {
-            let _ = given.threes.note(expected);
+        if matches!(answer, Ok(Answer::File(_))) {
+            given.collected += usize::from(several);
+        }
+        match call {
+            Call::LoadThree { .. } => drop(given.threes.note(expected)),
+            Call::LoadStrip { .. } => drop(given.strips.note(expected)),
+            _ => {}
         }
         assert_output(&answer, &before, &out);
         assert_book(&state, &book);
@@ -109,13 +122,22 @@ fn short_lists() {
         list(&mut random, &mut given, 8, 40);
     }
     given.report(&format!("lists of calls: {lists}"));
-    let Given { calls, threes, .. } = given;
+    let Given {
+        calls,
+        threes,
+        strips,
+        ..
+    } = given;
     assert_eq!(
         calls.times(Reason::Unsound),
         0,
         "no call of a list answers 14"
     );
-    assert_eq!(calls.times(Reason::Pixel), 0, "12 never comes from a file");
+    assert_eq!(
+        calls.times(Reason::Pixel),
+        strips.times(Reason::Pixel),
+        "12 never comes from a file"
+    );
     let of_images = [reasons(9..=11), reasons(13..=13)].concat();
     for reason in [reasons(3..=7), of_images.clone(), reasons(15..=18)].concat() {
         assert!(calls.times(reason) >= 100, "{reason:?}");
@@ -127,6 +149,24 @@ fn short_lists() {
     for place in [2, 3] {
         assert!(threes.times_at(Reason::SizesDiffer, place) >= 1000);
     }
+    assert_strips(&strips);
+    assert!(given.collected >= 1000);
+}
+
+/// Strips are loaded, and refused by each of their numbers, those of a part at several parts.
+fn assert_strips(strips: &Tally) {
+    assert!(strips.accepted >= 5000);
+    for reason in [reasons(10..=13), reasons(23..=23)].concat() {
+        assert!(strips.times(reason) >= 100, "{reason:?} of a strip");
+    }
+    assert!(strips.times_at(Reason::Parts, 0) >= 100);
+    for place in 2..=5 {
+        assert!(strips.times_at(Reason::Parts, place) >= 20, "{place}");
+    }
+    for place in 1..=5 {
+        assert!(strips.times_at(Reason::Size, place) >= 20, "{place}");
+    }
+    assert!(strips.places(Reason::Pixel) >= 5);
 }
 
 #[test]
@@ -139,5 +179,5 @@ fn long_lists() {
     }
     given.report(&format!("long lists: {lists}"));
     assert_eq!(given.calls.times(Reason::Unsound), 0);
-    assert!(given.threes.accepted >= 100);
+    assert!(given.threes.accepted >= 100 && given.strips.accepted >= 100);
 }

@@ -2,9 +2,9 @@
 
 mod common;
 
-use common::{loaded, report, view};
+use common::{loaded, loaded_strip, report, view};
 use mask_cleaner::cases::{long_column, long_row, random_image, random_table, Random};
-use mask_cleaner::job::Table;
+use mask_cleaner::job::{Job, Table};
 use mask_cleaner::record::TableRecord;
 use mask_cleaner::reference::image::Image;
 
@@ -45,7 +45,10 @@ fn image(width: usize, height: usize, random: &mut Random) -> Image {
 
 /// The pixels after so many passes, quiet ones too.
 fn after(table: &Table, image: &Image, passes: usize) -> Vec<u8> {
-    let mut job = loaded(table, image);
+    passed(loaded(table, image), passes)
+}
+
+fn passed(mut job: Job, passes: usize) -> Vec<u8> {
     for _ in 0..passes {
         job.pass().expect("an accepted pass");
     }
@@ -81,14 +84,15 @@ fn between(heights: &[usize], part: usize, row: usize) -> usize {
     above.into_iter().chain(below).min().unwrap_or(usize::MAX)
 }
 
-/// For each row of a strip: the rows between it and the nearest seam, and how many of its pixels differ from the part's, cleaned alone.
+/// For each row of a strip that is loaded as one: the rows between it and the nearest seam, and how many of its pixels differ from the
+/// part's, cleaned alone.
 fn beside_parts(
     table: &Table,
     strip: &Image,
     heights: &[usize],
     passes: usize,
 ) -> Vec<(usize, usize)> {
-    let whole = after(table, strip, passes);
+    let whole = passed(loaded_strip(table, strip, heights), passes);
     let mut alone = Vec::new();
     let mut rows = Vec::new();
     for (part, height) in heights.iter().enumerate() {
@@ -137,8 +141,9 @@ fn parts_alone() {
     let (cases, mut compared, mut felt) = (6000, 0, 0);
     for _ in 0..cases {
         let (table, passes) = (table(&mut random), random.below(4));
-        let parts = 1 + random.below(4);
-        let heights: Vec<usize> = (0..parts).map(|_| 1 + random.below(60)).collect();
+        let (parts, highest) = *random.choose(&[(4, 60), (4, 60), (4, 60), (16, 40), (3, 256)]);
+        let parts = 1 + random.below(parts);
+        let heights: Vec<usize> = (0..parts).map(|_| 1 + random.below(highest)).collect();
         let width = 1 + random.below(24);
         let strip = image(width, heights.iter().sum(), &mut random);
         for (between, differing) in beside_parts(&table, &strip, &heights, passes) {

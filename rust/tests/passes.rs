@@ -5,13 +5,15 @@ mod common;
 use common::compare::{compare, compare_with_filter, some_table, Counts};
 use common::{report, State};
 use mask_cleaner::cases::{
-    cobbles, cross, named_tables, random_figure, random_image, random_table, Kind, Random,
+    cobbles, cross, named_tables, random_cut, random_figure, random_image, random_table, Kind,
+    Random,
 };
 use mask_cleaner::library;
 use mask_cleaner::model::{Answer, Call};
-use mask_cleaner::record::{JobRecord, TableRecord, MAX_RANKS};
+use mask_cleaner::record::{JobRecord, StripRecord, TableRecord, MAX_RANKS};
 use mask_cleaner::reference::image::{file_of, Image};
 use mask_cleaner::reference::pass::one_pass;
+use mask_cleaner::reference::strip::files_of;
 
 #[test]
 fn all_small_sizes() {
@@ -192,22 +194,28 @@ fn nothing_outside_the_areas() {
     for case in 0..cases {
         let (width, height) = (1 + random.below(40), 1 + random.below(40));
         let pixels = width * height;
-        let file = file_of(&random_image(width, height, &mut random));
+        let image = random_image(width, height, &mut random);
+        let (file, cut) = (file_of(&image), random_cut(height, &mut random));
+        let heights = if case % 3 == 2 { &cut[..] } else { &[height] };
+        let length = files_of(&image, heights).len();
         let table = some_table(&mut random);
         let mut first = vec![0xA5; pixels + 2 * GUARD];
         let mut second = vec![0x5A; pixels + 2 * GUARD];
-        let mut out = vec![0xC3; file.len() + 2 * GUARD];
+        let mut out = vec![0xC3; length + 2 * GUARD];
         let inner = GUARD..GUARD + pixels;
         let mut record = JobRecord::EMPTY;
         let (one, two) = (&mut first[inner.clone()], &mut second[inner]);
-        let loaded = if case % 2 == 0 {
-            library::load(&mut record, &table, &file, one, two)
-        } else {
-            library::load_three(&mut record, &table, [&file; 3], one, two)
+        let loaded = match case % 3 {
+            0 => library::load(&mut record, &table, &file, one, two),
+            1 => library::load_three(&mut record, &table, [&file; 3], one, two),
+            _ => {
+                let strip = StripRecord::new(width, heights);
+                library::load_strip(&mut record, &table, &strip, &image.pixels, one, two)
+            }
         };
         loaded.expect("accepted");
         library::run(&mut record, one, two).expect("accepted");
-        let output = &mut out[GUARD..GUARD + file.len()];
+        let output = &mut out[GUARD..GUARD + length];
         library::collect(&mut record, one, two, output).expect("accepted");
         for (bytes, guard) in [(&first, 0xA5), (&second, 0x5A), (&out, 0xC3)] {
             let end = bytes.len() - GUARD;

@@ -1,15 +1,18 @@
-//! The reference by itself: the trials of 01 and 02 (T-01, T-12) over it, and the quick pass beside the one by definition.
+//! The reference by itself: the trials of 01 and 02 (T-01, T-08, T-12) over it, and the quick pass beside the one by definition.
 
 mod common;
 
 use common::report;
-use mask_cleaner::cases::{cobbles, cross, median, random_image, random_table, ring};
+use mask_cleaner::cases::{cobbles, cross, median, random_cut, random_image, random_table, ring};
 use mask_cleaner::cases::{Kind, Random};
 use mask_cleaner::fast::Filter;
-use mask_cleaner::record::{TableRecord, MAX_RANKS, PLACES};
+use mask_cleaner::model::{Answer, Book, Call};
+use mask_cleaner::record::{
+    JobRecord, PartCounts, Progress, StripRecord, TableRecord, MAX_RANKS, PLACES,
+};
 use mask_cleaner::reference::image::{majority, Image};
 use mask_cleaner::reference::pass::{changes, one_pass, plain};
-use mask_cleaner::reference::table::check;
+use mask_cleaner::reference::{job, strip, table::check};
 
 /// The passes until nothing changes, and the last image.
 fn rest(image: &Image, table: &TableRecord) -> (usize, Image) {
@@ -67,6 +70,68 @@ fn every_pattern_of_three_pixels() {
     assert_eq!(majority(&images), expected);
 }
 
+/// 02's strip (T-08), by the reference and by the book.
+#[test]
+fn dot_above_a_seam() {
+    let dot = only(5, 5, |x, y| (x, y) == (2, 2));
+    let (shape, pixels) = (StripRecord::new(5, &[3, 2]), dot.pixels.clone());
+    let (mut record, mut one, mut two) = (JobRecord::EMPTY, vec![7; 25], vec![8; 25]);
+    let loaded = job::load_strip(&mut record, &ring(), &shape, &pixels, &mut one, &two);
+    assert_eq!((loaded, record.strip, &one), (Ok(()), shape, &pixels));
+    assert_eq!(
+        job::run(&mut record, &mut one, &mut two),
+        Ok(Progress::Stable)
+    );
+    let mut counts = PartCounts::NONE;
+    counts.removed[0] = 1;
+    assert_eq!(
+        (record.passes, record.removed, record.counts),
+        (1, 1, counts)
+    );
+    let mut out = [7; 20];
+    let files = *b"P4\n5 3\n\0\0\0P4\n5 2\n\0\0\x07";
+    assert_eq!(job::collect(&mut record, &one, &two, &mut out), Ok(19));
+    assert_eq!((out, record), (files, JobRecord::EMPTY));
+    let load = Call::LoadStrip {
+        table: ring(),
+        strip: shape,
+        pixels,
+    };
+    let mut book = Book::default();
+    for call in [load, Call::Run] {
+        assert!(book.enter(&call, [25, 25]).is_ok());
+    }
+    let changed = book.entry.as_ref().map(|entry| entry.changed_in_parts());
+    assert_eq!(changed, Some(counts));
+    let collected = book.enter(&Call::Collect { out_length: 19 }, [25, 25]);
+    assert_eq!(collected, Ok(Answer::File(files[..19].to_vec())));
+}
+
+/// Parts and their changes sum to the whole's, whatever the cut.
+#[test]
+fn parts_sum_to_the_whole() {
+    let mut random = Random::new(3);
+    for _ in 0..3000 {
+        let (width, rows) = (1 + random.below(9), 1 + random.below(400));
+        let (from, to) = (
+            random_image(width, rows, &mut random),
+            random_image(width, rows, &mut random),
+        );
+        let heights = random_cut(rows, &mut random);
+        assert!(heights.len() <= 16 && heights.iter().all(|h| (1..=256).contains(h)));
+        let parts = [&from, &to].map(|image| strip::parts_of(image, &heights));
+        let pixels: Vec<&[u8]> = parts[0].iter().map(|part| &part.pixels[..]).collect();
+        assert_eq!(pixels.concat(), from.pixels);
+        let pairs = parts[0].iter().zip(&parts[1]);
+        let sum = pairs.fold((0, 0), |(added, removed), (from, to)| {
+            let (more, fewer) = changes(from, to);
+            (added + more, removed + fewer)
+        });
+        assert_eq!(sum, changes(&from, &to));
+    }
+    report("parts that sum to the whole: 3000 cuts");
+}
+
 #[test]
 fn random_tables_are_accepted() {
     let mut random = Random::new(1);
@@ -92,8 +157,12 @@ fn fast_equals_definition() {
     let mut changing = 0;
     let cases = 6000;
     for case in 0..cases {
-        let longest = if case % 20 == 0 { 70 } else { 20 };
-        let (width, height) = (1 + random.below(longest), 1 + random.below(longest));
+        let (widest, highest) = match case % 40 {
+            0 => (70, 70),
+            20 => (6, 4096),
+            _ => (20, 20),
+        };
+        let (width, height) = (1 + random.below(widest), 1 + random.below(highest));
         let table = random_table(&mut random, 64);
         let image = random_image(width, height, &mut random);
         let expected = one_pass(&image, &table);

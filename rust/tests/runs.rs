@@ -155,8 +155,8 @@ fn with_room(
 ) -> State {
     let mut state = State::holding(image, *table, passes, random);
     let changed = image.pixels.len() - room;
-    state.record.added = random.below(changed + 1);
-    state.record.removed = changed - state.record.added;
+    let added = random.below(changed + 1);
+    state.set_changed(added, changed - added, random);
     state
 }
 

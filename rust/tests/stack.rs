@@ -1,16 +1,19 @@
-//! How deep the calls go: each on the largest image, in a thread whose stack the test lends and looks at afterwards.
+//! How deep the calls go: each on the largest image and on the largest strip, in a thread whose stack the test lends and looks at afterwards.
 
 mod common;
 
 use common::report;
 use mask_cleaner::cases::{median, Kind, Random};
 use mask_cleaner::library;
-use mask_cleaner::record::{JobRecord, MAX_SIDE};
+use mask_cleaner::record::{JobRecord, StripRecord, MAX_PARTS, MAX_SIDE};
 use mask_cleaner::reference::image::file_of;
 use std::ffi::{c_int, c_void};
 
-/// The depth that no call reaches.
+/// The depth that no call on a single image reaches.
 const ENOUGH: usize = 128 * 1024;
+
+/// The depth that no call on a strip reaches.
+const ENOUGH_FOR_STRIPS: usize = 256 * 1024;
 
 /// The stack that is lent: more than that, so that a call which goes deeper is seen and does no harm.
 const LENT: usize = 2 * 1024 * 1024;
@@ -116,6 +119,38 @@ fn every_call(width: usize, make: impl Fn(&str, Accepted)) {
     });
 }
 
+/// Makes every call on a job once, on a strip of that width and as many rows as there can be.
+fn every_call_on_a_strip(width: usize, make: impl Fn(&str, Accepted)) {
+    let mut random = Random::new(131);
+    let strip = StripRecord::new(width, &[MAX_SIDE; MAX_PARTS]);
+    let image = Kind::Worn.image(width, MAX_PARTS * MAX_SIDE, &mut random);
+    let (table, pixels) = (median(), image.pixels);
+    let mut job = JobRecord::EMPTY;
+    let (mut one, mut two) = (vec![0; pixels.len()], vec![0; pixels.len()]);
+    let mut out = vec![0; MAX_PARTS * (11 + 32 * MAX_SIDE)];
+    make("load of a strip", &mut || {
+        library::load_strip(&mut job, &table, &strip, &pixels, &mut one, &two).is_ok()
+    });
+    // the second one counts before it writes
+    for name in ["pass over a strip", "second pass over a strip"] {
+        make(name, &mut || {
+            library::pass(&mut job, &mut one, &mut two).is_ok()
+        });
+    }
+    make("run over a strip", &mut || {
+        library::run(&mut job, &mut one, &mut two).is_ok()
+    });
+    make("view of a strip", &mut || {
+        library::view(&job, &one, &two).is_ok()
+    });
+    make("figures of a strip", &mut || {
+        library::figures(&job, &one, &two).is_ok()
+    });
+    make("collect of a strip", &mut || {
+        library::collect(&mut job, &one, &two, &mut out).is_ok()
+    });
+}
+
 /// A thread's start and end count too.
 #[test]
 fn depth_of_every_call() {
@@ -133,6 +168,21 @@ fn depth_of_every_call() {
     }
 }
 
+#[test]
+fn depth_of_every_call_on_a_strip() {
+    let start = depth(|| {});
+    for width in WIDTHS {
+        every_call_on_a_strip(width, |name, call| {
+            let mut accepted = false;
+            let depth = depth(|| accepted = call());
+            let bytes = depth - start;
+            report(&format!("stack of {name}, {width} columns: {bytes} bytes"));
+            assert!(accepted, "{name}");
+            assert!(depth < ENOUGH_FOR_STRIPS, "{name}: {depth} bytes");
+        });
+    }
+}
+
 /// An overflow ends the whole test.
 #[test]
 fn every_call_in_a_small_stack() {
@@ -142,5 +192,17 @@ fn every_call_in_a_small_stack() {
     let widths = thread.join().expect("an end").len();
     report(&format!(
         "every call in {ENOUGH} bytes of stack: {widths} widths"
+    ));
+}
+
+#[test]
+fn every_call_on_a_strip_in_a_small_stack() {
+    let thread = std::thread::Builder::new().stack_size(ENOUGH_FOR_STRIPS);
+    let make = |name: &str, call: Accepted| assert!(call(), "{name}");
+    let work = move || WIDTHS.map(|width| every_call_on_a_strip(width, make));
+    let thread = thread.spawn(work).expect("a thread");
+    let widths = thread.join().expect("an end").len();
+    report(&format!(
+        "every call on a strip in {ENOUGH_FOR_STRIPS} bytes of stack: {widths} widths"
     ));
 }

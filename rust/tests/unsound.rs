@@ -3,12 +3,12 @@
 
 mod common;
 
-use common::{reasons, report, State, Stock, Tally};
-use mask_cleaner::cases::{cobbles, random_image, random_table, ring, Kind, Random};
+use common::{reasons, report, shares, State, Stock, Tally};
+use mask_cleaner::cases::{cobbles, random_cut, random_image, random_table, ring, Kind, Random};
 use mask_cleaner::model::{Answer, Call};
 use mask_cleaner::record::{
-    JobRecord, Progress, Reason, Refusal, TableRecord, MAX_RANKS, PLACES, STAGE_LOADED,
-    STAGE_STABLE,
+    JobRecord, Progress, Reason, Refusal, StripRecord, TableRecord, MAX_PARTS, MAX_RANKS, MAX_SIDE,
+    PLACES, STAGE_LOADED, STAGE_STABLE,
 };
 use mask_cleaner::reference::image::{file_of, Image};
 use mask_cleaner::reference::pass::{changes, one_pass};
@@ -21,7 +21,6 @@ enum Clause {
     None,
     Stage,
     EmptyWithField,
-    Size,
     Table,
     ShortFirst,
     ShortSecond,
@@ -29,13 +28,29 @@ enum Clause {
     Passes,
     Changed,
     ChangedWraps,
+    /// The parts of T-08, here and below.
+    NoParts,
+    TooManyParts,
+    SizeOfPart,
+    WidthOfPart,
+    Width,
+    Height,
+    HeightsWrap,
+    PastWidths,
+    PastHeights,
+    PastAdded,
+    PastRemoved,
+    AddedSum,
+    AddedWraps,
+    RemovedSum,
+    RemovedWraps,
+    SumsExchanged,
 }
 
-const CLAUSES: [Clause; 11] = [
+const CLAUSES: [Clause; 26] = [
     Clause::None,
     Clause::Stage,
     Clause::EmptyWithField,
-    Clause::Size,
     Clause::Table,
     Clause::ShortFirst,
     Clause::ShortSecond,
@@ -43,23 +58,65 @@ const CLAUSES: [Clause; 11] = [
     Clause::Passes,
     Clause::Changed,
     Clause::ChangedWraps,
+    Clause::NoParts,
+    Clause::TooManyParts,
+    Clause::SizeOfPart,
+    Clause::WidthOfPart,
+    Clause::Width,
+    Clause::Height,
+    Clause::HeightsWrap,
+    Clause::PastWidths,
+    Clause::PastHeights,
+    Clause::PastAdded,
+    Clause::PastRemoved,
+    Clause::AddedSum,
+    Clause::AddedWraps,
+    Clause::RemovedSum,
+    Clause::RemovedWraps,
+    Clause::SumsExchanged,
 ];
 
-/// A sound state: an image in the area that the parity of passes names, other bytes in the other area.
+/// A sound state: an image in the area that the parity of passes names, other bytes in the other area. Half of the images have one part.
 fn sound(random: &mut Random) -> State {
-    let (width, height) = (1 + random.below(12), 1 + random.below(12));
+    let (width, height) = (1 + random.below(12), 1 + random.below(18));
     let pixels = width * height;
     let image = random_image(width, height, random);
+    let heights = if random.percent(50) {
+        vec![height]
+    } else {
+        random_cut(height, random)
+    };
     let (passes, added) = (random.below(pixels + 1), random.below(pixels + 1));
     let table = random_table(random, 10);
-    let mut state = State::holding(&image, table, passes, random);
+    let mut state = State::holding_strip(&image, &heights, table, passes, random);
     state.record.stage = *random.choose(&[STAGE_LOADED, STAGE_LOADED, STAGE_STABLE]);
-    state.record.added = added;
-    state.record.removed = random.below(pixels + 1 - added);
+    let removed = random.below(pixels + 1 - added);
+    state.set_changed(added, removed, random);
     state
 }
 
-/// Breaks one clause.
+/// A sound state that can break the clause: with more parts than one, with fewer or as many as there can be, or with other counts.
+fn sound_for(clause: Clause, random: &mut Random) -> State {
+    loop {
+        let state = sound(random);
+        let JobRecord { added, removed, .. } = state.record;
+        let parts = state.record.strip.parts;
+        let fits = match clause {
+            Clause::TooManyParts => parts == MAX_PARTS,
+            Clause::WidthOfPart | Clause::HeightsWrap => parts > 1,
+            Clause::AddedWraps | Clause::RemovedWraps => parts > 1,
+            Clause::PastWidths | Clause::PastHeights => parts < MAX_PARTS,
+            Clause::PastAdded | Clause::PastRemoved => parts < MAX_PARTS,
+            Clause::SumsExchanged => added != removed,
+            _ => true,
+        };
+        if fits {
+            return state;
+        }
+    }
+}
+
+/// Breaks one clause and, as far as that can be, no other.
 fn damage(state: &mut State, clause: Clause, random: &mut Random) {
     let State {
         record,
@@ -71,7 +128,6 @@ fn damage(state: &mut State, clause: Clause, random: &mut Random) {
         Clause::None => {}
         Clause::Stage => record.stage = 3 + random.below(253) as u8,
         Clause::EmptyWithField => *record = empty_with_field(random),
-        Clause::Size => damage_size(record, random),
         Clause::Table => damage_table(&mut record.table, random),
         Clause::ShortFirst => first.truncate(random.below(pixels)),
         Clause::ShortSecond => second.truncate(random.below(pixels)),
@@ -86,19 +142,142 @@ fn damage(state: &mut State, clause: Clause, random: &mut Random) {
         }
         Clause::Passes => record.passes = more(pixels, random),
         Clause::Changed => {
-            let over = pixels - record.added;
-            record.removed = over + 1 + random.below(9);
+            let (added, over) = (record.added, pixels - record.added);
+            let removed = over + 1 + random.below(9);
+            state.set_changed(added, removed, random);
         }
         Clause::ChangedWraps => {
-            record.added = usize::MAX - random.below(3);
-            record.removed = random.below(pixels + 9);
-            if random.percent(50) {
-                std::mem::swap(&mut record.added, &mut record.removed);
-            }
+            let most = usize::MAX - random.below(3);
+            let other = random.below(pixels + 9);
+            let (added, removed) = *random.choose(&[(most, other), (other, most)]);
+            state.set_changed(added, removed, random);
         }
+        _ => damage_parts(state, clause, random),
     }
 }
 
+fn damage_parts(state: &mut State, clause: Clause, random: &mut Random) {
+    let record = &mut state.record;
+    let JobRecord { width, height, .. } = *record;
+    let parts = record.strip.parts;
+    let part = random.below(parts);
+    match clause {
+        Clause::NoParts => {
+            *record = JobRecord {
+                stage: record.stage,
+                table: record.table,
+                ..JobRecord::EMPTY
+            }
+        }
+        Clause::TooManyParts => record.strip.parts = *random.choose(&[17, 18, 32, usize::MAX]),
+        Clause::SizeOfPart => damage_size_of(state, part, random),
+        Clause::WidthOfPart => record.strip.widths[part.max(1)] = another(width, random),
+        Clause::Width => {
+            record.width = another(width, random);
+            fit(state, random);
+        }
+        Clause::Height => {
+            record.height = another(height, random);
+            fit(state, random);
+        }
+        Clause::HeightsWrap => wrap(&mut record.strip.heights[..parts], random),
+        Clause::AddedSum => one_more_or_less(&mut record.counts.added[part], random),
+        Clause::AddedWraps => wrap(&mut record.counts.added[..parts], random),
+        Clause::RemovedSum => one_more_or_less(&mut record.counts.removed[part], random),
+        Clause::RemovedWraps => wrap(&mut record.counts.removed[..parts], random),
+        Clause::SumsExchanged => {
+            std::mem::swap(&mut record.counts.added, &mut record.counts.removed)
+        }
+        _ => damage_past(state, clause, random),
+    }
+}
+
+/// A part of a bad size; the record has the width of all parts and the sum of their heights, and the areas fit.
+fn damage_size_of(state: &mut State, part: usize, random: &mut Random) {
+    let JobRecord {
+        width,
+        height,
+        strip,
+        ..
+    } = &mut state.record;
+    let side = *random.choose(&[0, 257, 258, 300]);
+    if random.percent(50) {
+        *width = side;
+        strip.widths[..strip.parts].fill(side);
+    } else {
+        *height = *height - strip.heights[part] + side;
+        strip.heights[part] = side;
+    }
+    fit(state, random);
+}
+
+/// A side that is not bad, and not the given one.
+fn another(side: usize, random: &mut Random) -> usize {
+    let other = 1 + random.below(MAX_SIDE - 1);
+    let near = if side > 1 { side - 1 } else { side + 1 };
+    *random.choose(&[near, if other < side { other } else { other + 1 }])
+}
+
+/// Areas that fit the record's size, with nothing but pixels in them, and counts that it allows.
+fn fit(state: &mut State, random: &mut Random) {
+    let pixels = state.record.width * state.record.height;
+    for area in [&mut state.first, &mut state.second] {
+        area.resize(pixels + random.below(4), 0);
+        area.iter_mut().for_each(|byte| *byte %= 2);
+    }
+    let JobRecord { added, removed, .. } = state.record;
+    let added = added.min(pixels);
+    state.record.passes = state.record.passes.min(pixels);
+    state.set_changed(added, removed.min(pixels - added), random);
+}
+
+/// A place past the parts that is not zero. The record's number is the sum without it or, where that can be, the sum with it.
+fn damage_past(state: &mut State, clause: Clause, random: &mut Random) {
+    let JobRecord {
+        width,
+        height,
+        added,
+        removed,
+        strip,
+        counts,
+        ..
+    } = &mut state.record;
+    let place = strip.parts + random.below(MAX_PARTS - strip.parts);
+    let value = *random.choose(&[1, 2, *width, usize::MAX]);
+    let counted = value <= *width * *height - *added - *removed && random.percent(50);
+    let (field, sum) = match clause {
+        Clause::PastWidths => (&mut strip.widths, None),
+        Clause::PastHeights => (&mut strip.heights, Some(height)),
+        Clause::PastAdded => (&mut counts.added, Some(added)),
+        _ => (&mut counts.removed, Some(removed)),
+    };
+    field[place] = value;
+    if let (true, Some(sum)) = (counted, sum) {
+        *sum += value;
+    }
+    if matches!(clause, Clause::PastHeights) {
+        fit(state, random);
+    }
+}
+
+fn one_more_or_less(place: &mut usize, random: &mut Random) {
+    if *place > 0 && random.percent(50) {
+        *place -= 1;
+    } else {
+        *place += 1;
+    }
+}
+
+/// Numbers of at least two parts that have the same sum only where it wraps.
+fn wrap(places: &mut [usize], random: &mut Random) {
+    let one = random.below(places.len());
+    let other = (one + 1 + random.below(places.len() - 1)) % places.len();
+    let moved = *random.choose(&[places[one] + 1, places[one] + 9, 1 << 63]);
+    places[one] = places[one].wrapping_sub(moved);
+    places[other] = places[other].wrapping_add(moved);
+}
+
+/// Only the record's width or height, to anything.
 fn damage_size(record: &mut JobRecord, random: &mut Random) {
     let side = *random.choose(&[0, 257, 65_536, 1 << 32, usize::MAX]);
     if random.percent(50) {
@@ -131,7 +310,8 @@ fn more(pixels: usize, random: &mut Random) -> usize {
 fn empty_with_field(random: &mut Random) -> JobRecord {
     let mut record = JobRecord::EMPTY;
     let value = 1 + random.below(300);
-    match random.below(9) {
+    let part = random.below(MAX_PARTS);
+    match random.below(14) {
         0 => record.width = value,
         1 => record.height = value,
         2 => record.passes = value,
@@ -140,12 +320,17 @@ fn empty_with_field(random: &mut Random) -> JobRecord {
         5 => record.table.count = value,
         6 => record.table.elements[random.below(PLACES)] = value as u32,
         7 => record.table.ranks = value,
-        _ => record.table.persistents[random.below(MAX_RANKS)] = value as u32,
+        8 => record.table.persistents[random.below(MAX_RANKS)] = value as u32,
+        9 => record.strip.parts = value,
+        10 => record.strip.widths[part] = value,
+        11 => record.strip.heights[part] = value,
+        12 => record.counts.added[part] = value,
+        _ => record.counts.removed[part] = value,
     }
     record
 }
 
-/// Each of the seven calls on copies of a state.
+/// Each of the eight calls on copies of a state.
 fn try_all(state: &State, random: &mut Random, tally: &mut Tally) {
     let load = Call::Load {
         table: random_table(random, 3),
@@ -155,10 +340,16 @@ fn try_all(state: &State, random: &mut Random, tally: &mut Tally) {
         table: random_table(random, 3),
         files: [(); 3].map(|()| file_of(&Kind::Noise.image(3, 3, random))),
     };
+    let load_strip = Call::LoadStrip {
+        table: random_table(random, 3),
+        strip: StripRecord::new(3, &[1, 2]),
+        pixels: Kind::Noise.image(3, 3, random).pixels,
+    };
     let collect = Call::Collect { out_length: 60 };
     let calls = [
         load,
         load_three,
+        load_strip,
         Call::Pass,
         Call::Run,
         Call::View,
@@ -167,7 +358,7 @@ fn try_all(state: &State, random: &mut Random, tally: &mut Tally) {
     ];
     for call in calls {
         let mut copy = state.clone();
-        let length = *random.choose(&[0, 8, 60, 60]);
+        let length = *random.choose(&[0, 8, 60, 200]);
         let mut out = random.output(length);
         let answer = tally.note(copy.apply_both(&call, &mut out));
         let keeps_passes = matches!(call, Call::Run);
@@ -182,8 +373,8 @@ fn each_clause() {
     let mut random = Random::new(60);
     for clause in CLAUSES {
         let mut tally = Tally::default();
-        for _ in 0..2000 {
-            let mut state = sound(&mut random);
+        for _ in 0..1500 {
+            let mut state = sound_for(clause, &mut random);
             damage(&mut state, clause, &mut random);
             try_all(&state, &mut random, &mut tally);
         }
@@ -242,8 +433,7 @@ fn pass_clause() {
             state.record.passes %= 2;
         }
         let most = pixels - changed + random.below(3);
-        state.record.added = most.min(pixels);
-        state.record.removed = 0;
+        state.set_changed(most.min(pixels), 0, &mut random);
         let mut copy = state.clone();
         let answer = tally.note(copy.apply_both(&Call::Pass, &mut []));
         if answer == Err(Refusal::of(Reason::Unsound)) {
@@ -281,7 +471,7 @@ fn run_keeps_its_passes() {
         let pixels = state.record.width * state.record.height;
         let room = changed + random.below(changed_next);
         state.record.passes %= 2;
-        (state.record.added, state.record.removed) = (0, pixels.saturating_sub(room));
+        state.set_changed(0, pixels.saturating_sub(room), &mut random);
         let before = state.record.passes;
         let mut singly = state.clone();
         let answer = state.apply_both(&Call::Run, &mut []);
@@ -298,7 +488,7 @@ fn run_keeps_its_passes() {
 
 /// Numbers beside zero, the pixels and powers of two, up to the greatest.
 fn near_the_ceilings(pixels: usize) -> Vec<usize> {
-    let ceilings = [0, pixels, 1 << 16, 1 << 32, 1 << 63];
+    let ceilings = [0, pixels, 1 << 16, 1 << 20, 1 << 32, 1 << 63];
     let near = ceilings.map(|n| [n.wrapping_sub(1), n, n + 1]);
     let far = [
         pixels.wrapping_neg(),
@@ -308,22 +498,32 @@ fn near_the_ceilings(pixels: usize) -> Vec<usize> {
     [near.concat(), far.to_vec()].concat()
 }
 
-/// Passes, added and removed, each near a ceiling: where two of them together wrap, too.
+/// Widths, heights and how many cases of each.
+const SIZES_AND_CASES: [(usize, usize, usize); 6] = [
+    (1, 1, 1500),
+    (3, 3, 1500),
+    (65, 3, 1500),
+    (3, 300, 300),
+    (256, 256, 40),
+    (256, 4096, 4),
+];
+
+/// Passes, added and removed, each near a ceiling: where two of them together wrap, too. The images are cut into parts.
 #[test]
 fn counts_near_the_ceilings() {
     let mut random = Random::new(65);
     let mut tally = Tally::default();
     let (mut wrapping, mut full) = (0, 0);
-    for (width, height, cases) in [(1, 1, 1500), (3, 3, 1500), (65, 3, 1500), (256, 256, 40)] {
+    for (width, height, cases) in SIZES_AND_CASES {
         let near = near_the_ceilings(width * height);
         for _ in 0..cases {
             let image = Kind::Worn.image(width, height, &mut random);
-            let mut state = State::holding(&image, ring(), *random.choose(&near), &mut random);
+            let (cut, passes) = (random_cut(height, &mut random), *random.choose(&near));
+            let mut state = State::holding_strip(&image, &cut, ring(), passes, &mut random);
             let small = random.percent(50);
             let choices = if small { &near[..6] } else { &near };
-            state.record.added = *random.choose(choices);
-            state.record.removed = *random.choose(choices);
-            let JobRecord { added, removed, .. } = state.record;
+            let (added, removed) = (*random.choose(choices), *random.choose(choices));
+            state.set_changed(added, removed, &mut random);
             wrapping += usize::from(added.checked_add(removed).is_none());
             full += usize::from(added.checked_add(removed) == Some(width * height));
             try_all(&state, &mut random, &mut tally);
@@ -336,6 +536,34 @@ fn counts_near_the_ceilings() {
     assert!(wrapping >= 500 && full >= 100 && tally.accepted >= 500);
 }
 
+/// Alters the parts, often so that the record stays sound: other cuts, other shares of the counts, more counts.
+fn alter_parts(record: &mut JobRecord, random: &mut Random) {
+    let JobRecord {
+        width,
+        height,
+        added,
+        removed,
+        strip,
+        counts,
+        ..
+    } = record;
+    let part = random.below(MAX_PARTS);
+    match random.below(6) {
+        0 | 1 if (1..=MAX_SIDE).contains(height) => {
+            *strip = StripRecord::new(*width, &random_cut(*height, random));
+            counts.added = shares(*added, strip.parts, random);
+            counts.removed = shares(*removed, strip.parts, random);
+        }
+        2 => {
+            *added = added.wrapping_add(1);
+            counts.added[0] = counts.added[0].wrapping_add(1);
+        }
+        3 => strip.parts = random.below(18),
+        4 => strip.widths.swap(0, part),
+        _ => counts.removed.swap(0, part),
+    }
+}
+
 /// Alters one field of the record, often to a value that is sound, or a byte of an area, or empties the record.
 fn alter(state: &mut State, random: &mut Random) {
     let State {
@@ -346,7 +574,7 @@ fn alter(state: &mut State, random: &mut Random) {
     let pixels = record.width.saturating_mul(record.height);
     let area = if random.percent(50) { first } else { second };
     let place = random.below(area.len() + 1);
-    match random.below(14) {
+    match random.below(18) {
         0 | 1 => record.stage = *random.choose(&[STAGE_LOADED, STAGE_STABLE]),
         2 => record.stage = random.below(4) as u8,
         3 => record.passes = *random.choose(&[0, 1, pixels, pixels.saturating_add(1)]),
@@ -357,6 +585,7 @@ fn alter(state: &mut State, random: &mut Random) {
         8 => damage_table(&mut record.table, random),
         9 => record.table = *random.choose(&[TableRecord::EMPTY, ring(), cobbles()]),
         10..=12 => *record = JobRecord::EMPTY,
+        13..=16 => alter_parts(record, random),
         _ => area
             .iter_mut()
             .skip(place)
@@ -385,20 +614,23 @@ fn lists_between_alterations() {
                 altered += 1;
             }
             let call = stock.call(&mut random);
-            let length = random.below(60);
+            let length = random.below(120);
             let mut out = random.output(length);
-            let _ = tally.note(state.apply_both(&call, &mut out));
+            let answer = tally.note(state.apply_both(&call, &mut out));
+            if !matches!(call, Call::LoadStrip { .. }) {
+                let pixel = answer.is_err_and(|refusal| refusal.reason == Reason::Pixel);
+                assert!(!pixel, "12 never comes from a file");
+            }
         }
     }
     report(&format!(
         "lists of {calls} calls: {lists}, with {altered} alterations by others"
     ));
     tally.report("calls in such lists");
-    assert_eq!(tally.times(Reason::Pixel), 0, "12 never comes from a file");
     let given = [
         reasons(3..=7),
-        reasons(9..=11),
-        reasons(13..=18),
+        reasons(9..=18),
+        reasons(23..=23),
         reasons(26..=26),
     ];
     for reason in given.concat() {

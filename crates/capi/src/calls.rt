@@ -4,6 +4,7 @@ use crate::FileLength;
 use crate::Progress;
 use crate::answers;
 use history::Job;
+use image::strip::Strip;
 use table::Table;
 ghost use mathlib.Core.Path.{_≡_};
 ghost use lib.ListN.{length};
@@ -12,7 +13,7 @@ ghost use Rattle.history.specs.Collect.{collectWritten, collectOutput, collectS
 ghost use Rattle.history.specs.Load.{loadVerdict, loadState};
 ghost use Rattle.history.specs.Pass.{passOf};
 ghost use Rattle.history.specs.Run.{runOf};
-ghost use Rattle.history.specs.Source.{fromFile, fromThree};
+ghost use Rattle.history.specs.Source.{fromFile, fromThree, fromStrip};
 ghost use Rattle.job.specs.Core.{at};
 
 pub struct LoadedBy {
@@ -60,6 +61,28 @@ pub(crate) fn load_three(
         × (loadState table (fromThree (now (one .entry)) (now (two .entry)) (now (three .entry))) (at job (now (first .entry)) (now (second .entry))) .second ≡ now (second .entry)) ⌝ }
 {
     let loaded = job::load_three_core(job, table, one, two, three, first, second);
+    let answer = loaded.answer;
+    let job = loaded.job;
+    LoadedBy {
+        answer: answers::of_verdict(answer),
+        job,
+    }
+}
+
+pub(crate) fn load_strip(
+    job: Job,
+    table: Table,
+    strip: Strip,
+    pixels: &[u8],
+    first: &mut [u8],
+    second: &[u8],
+) -> LoadedBy
+    ensures { λ r. ⌜ (r ≡ loadedBy (loadVerdict table (fromStrip strip (now (pixels .entry))) (at job (now (first .entry)) (now (second .entry))))
+        (loadState table (fromStrip strip (now (pixels .entry))) (at job (now (first .entry)) (now (second .entry)))))
+        × (now (first .exit) ≡ loadState table (fromStrip strip (now (pixels .entry))) (at job (now (first .entry)) (now (second .entry))) .first)
+        × (loadState table (fromStrip strip (now (pixels .entry))) (at job (now (first .entry)) (now (second .entry))) .second ≡ now (second .entry)) ⌝ }
+{
+    let loaded = job::load_strip_core(job, table, strip, pixels, first, second);
     let answer = loaded.answer;
     let job = loaded.job;
     LoadedBy {

@@ -3,6 +3,7 @@ mod answers;
 mod calls;
 
 use history::Job;
+use image::strip::Strip;
 use table::Table;
 use verdict::Verdict;
 ghost use mathlib.Core.Bool.{cond};
@@ -16,7 +17,7 @@ ghost use Rattle.history.specs.Collect.{collectWritten, collectOutput, collectS
 ghost use Rattle.history.specs.Load.{loadVerdict, loadState};
 ghost use Rattle.history.specs.Pass.{passOf};
 ghost use Rattle.history.specs.Run.{runOf};
-ghost use Rattle.history.specs.Source.{fromFile, fromThree};
+ghost use Rattle.history.specs.Source.{fromFile, fromThree, fromStrip};
 ghost use Rattle.history.specs.State.{even};
 ghost use Rattle.history.specs.View.{figuresOf};
 ghost use Rattle.image.specs.File.{imageRead, imageArea, imageWritten, imageOutput};
@@ -168,6 +169,25 @@ pub extern "C" fn mask_load_three(
         × (loadState table (fromThree (now (one .entry)) (now (two .entry)) (now (three .entry))) (at (now (job .entry)) (now (first .entry)) (now (second .entry))) .second ≡ now (second .entry)) ⌝ }
 {
     let s = calls::load_three(*job, table, one, two, three, first, second);
+    *job = s.job;
+    s.answer
+}
+
+#[no_mangle]
+pub extern "C" fn mask_load_strip(
+    job: &mut Job,
+    table: Table,
+    strip: Strip,
+    pixels: &[u8],
+    first: &mut [u8],
+    second: &[u8],
+) -> Checked
+    ensures { λ r. ⌜ (r ≡ ofVerdict (loadVerdict table (fromStrip strip (now (pixels .entry))) (at (now (job .entry)) (now (first .entry)) (now (second .entry)))))
+        × (now (job .exit) ≡ loadState table (fromStrip strip (now (pixels .entry))) (at (now (job .entry)) (now (first .entry)) (now (second .entry))) .job)
+        × (now (first .exit) ≡ loadState table (fromStrip strip (now (pixels .entry))) (at (now (job .entry)) (now (first .entry)) (now (second .entry))) .first)
+        × (loadState table (fromStrip strip (now (pixels .entry))) (at (now (job .entry)) (now (first .entry)) (now (second .entry))) .second ≡ now (second .entry)) ⌝ }
+{
+    let s = calls::load_strip(*job, table, strip, pixels, first, second);
     *job = s.job;
     s.answer
 }

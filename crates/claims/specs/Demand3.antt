@@ -9,7 +9,7 @@
 --     reload-accepted, reload-view, reload-counts, reload-answers     what an accepted collect wrote, loaded again
 --     exchanged, ordered, located     two jobs with one table and one size
 -- Assumes nothing.
-use mathlib.Core.Bool.{true, false}
+use mathlib.Core.Bool.{true}
 use mathlib.Core.List.{List}
 use mathlib.Core.Logic.{_↔_, _⊎_, _≢_}
 use mathlib.Core.Path.{_≡_}
@@ -21,16 +21,16 @@ use Rattle.operator.specs.Pass as operator
 use Rattle.history.proofs.Demand3.{demand-3}
 use Rattle.history.specs.declared.Figured.the-variants.{Figures}
 use Rattle.history.specs.declared.Passed.the-variants.{Stable}
-use Rattle.history.specs.Answered.{restIf, fileOf, figuresBy, answeredBy}
+use Rattle.history.specs.Answered.{restIf, figuresBy, answeredBy}
 use Rattle.history.specs.Call.{Call, load, pass, run, view, figures, collect, passed, shown, figured, collected, answerOf, stateOf, refusalOf}
 use Rattle.history.specs.Demand3.{AfterList}
 use Rattle.history.specs.History as book
-use Rattle.history.specs.History.{Entry, empty, holds, Lengths, refusedBy}
+use Rattle.history.specs.History.{Entry, empty, holds, Lengths, filesOf, refusedBy}
 use Rattle.history.specs.Lists.{Course, start, lengthsOf, step, play, uncollected, firstOf, overSteps}
 use Rattle.history.specs.Source.{fromFile}
 use Rattle.history.specs.State.{State}
 use Rattle.history.specs.View.{viewOf, cover}
-use Rattle.image.specs.Size.{badSize}
+use Rattle.image.specs.Strip.{shapeVerdict, stripOf}
 use Rattle.seq.specs.Lists.{one}
 use Rattle.table.specs.Record.{recordVerdict}
 use Rattle.verdict.specs.declared.Refusal.{Refusal}
@@ -90,7 +90,8 @@ module _ (cs : List Call) (a b : List ℕ) where
     pub table-accepted : recordVerdict (e .table) ≡ Accepted
     table-accepted = demand-3 .after-list cs a b .agrees e h .accepted
 
-    pub size-accepted : badSize (e .width) (e .height) ≡ false
+    -- the number of parts, and the size of each
+    pub size-accepted : shapeVerdict (stripOf (e .width) (e .parts)) ≡ Accepted
     size-accepted = demand-3 .after-list cs a b .agrees e h .sized
 
     pub last-image : IsImage (e .width) (e .height) (e .last)
@@ -136,7 +137,7 @@ module _ (cs : List Call) (a b : List ℕ) where
     figures-answer = rw h at (answered-by-history figures)
 
     pub collect-answer : (out : List ℕ) → refusedBy (collect out) (lengthsOf (start a b .state)) (holds e) ≡ Accepted
-        → answerOf (collect out) (state cs a b) ≡ collected (Length (length (fileOf e))) (over (fileOf e) out)
+        → answerOf (collect out) (state cs a b) ≡ collected (Length (length (filesOf e))) (over (filesOf e) out)
     unfolding answeredBy
     collect-answer out ok = rw (h, ok) at (answered-by-history (collect out))
 
@@ -163,8 +164,8 @@ module _ (cs : List Call) (a b : List ℕ) where
           let r = demand-3 .rests cs a b e h s in
           (r .pass-answer, r .run-answer)
 
-    -- what an accepted collect wrote, loaded again with its table
-    module _ (out : List ℕ) (m : ℕ) (after : List ℕ) (q : answerOf (collect out) (state cs a b) ≡ collected (Length m) after) where
+    -- what an accepted collect wrote of a single image, loaded again with its table (of a strip: Strips)
+    module _ (single : length (e .parts) ≡ 1) (out : List ℕ) (m : ℕ) (after : List ℕ) (q : answerOf (collect out) (state cs a b) ≡ collected (Length m) after) where
       abbrev again : Call
       again = load (e .table) (fromFile (take m after))
 
@@ -172,23 +173,23 @@ module _ (cs : List Call) (a b : List ℕ) where
       emptied = step (collect out) (course cs a b)
 
       pub reload-accepted : refusalOf (answerOf again (emptied .state)) ≡ Accepted
-      reload-accepted = demand-3 .reloaded cs a b out e m after h q .accepted
+      reload-accepted = demand-3 .reloaded cs a b out e m after h single q .accepted
 
       module _ (ds : List Call) (u : uncollected ds (step again emptied) ≡ true) where
         abbrev later : State
         later = play ds (step again emptied) .state
 
         pub reload-view : viewOf later ≡ e .last
-        reload-view = demand-3 .reloaded cs a b out e m after h q .rests ds u .view
+        reload-view = demand-3 .reloaded cs a b out e m after h single q .rests ds u .view
 
         pub reload-counts : (later .job .passes ≡ 0) × (later .job .added ≡ 0) × (later .job .removed ≡ 0)
         reload-counts =
-            let r = demand-3 .reloaded cs a b out e m after h q .rests ds u in
+            let r = demand-3 .reloaded cs a b out e m after h single q .rests ds u in
             (r .passes, r .added, r .removed)
 
         pub reload-answers : (answerOf pass later ≡ passed Stable) × (answerOf run later ≡ passed Stable)
         reload-answers =
-            let r = demand-3 .reloaded cs a b out e m after h q .rests ds u in
+            let r = demand-3 .reloaded cs a b out e m after h single q .rests ds u in
             (r .pass-answer, r .run-answer)
 
 -- two jobs with one table and one size, after equally many accepted passes since their loads, or both settled

@@ -7,11 +7,12 @@ use mathlib.Core.Bool.{true}
 use mathlib.Core.List.{List}
 use mathlib.Core.Logic.{_≢_}
 use mathlib.Core.Path.{_≡_}
-use Prim.Native.Nat.{ℕ}
-use lib.ListN.{take}
+use Prim.Native.Nat.{ℕ, _<_}
+use lib.ListN.{length, take, drop}
 use Rattle.history.proofs.Padding.{job-padding}
 use Rattle.history.specs.Call.{load, collect, collected, answerOf, refusalOf}
 use Rattle.history.specs.Lists.{Course, step}
+use Rattle.history.specs.Padding.{partFile, partStart}
 use Rattle.history.specs.Source.{fromFile}
 use Rattle.history.specs.State.{State}
 use Rattle.image.proofs.Ignored.{padding-ignored}
@@ -45,7 +46,7 @@ never-12 = padding-ignored .never-12
 pub load-never-12 : (t : Table) (f : List ℕ) (s : State) (r : Refusal) → refusalOf (answerOf (load t (fromFile f)) s) ≡ Refused r → r .number ≢ 12
 load-never-12 = job-padding .never-12
 
--- what an accepted collect leaves at the front of its output
+-- what an accepted collect leaves at the front of its output: the file of each part
 pub collected-zero : (out : List ℕ) (s : State) (m : ℕ) (after : List ℕ) → answerOf (collect out) s ≡ collected (Length m) after
-    → unusedZero (take m after) ≡ true
+    → (i : ℕ) → i < s .job .strip .parts → unusedZero (take (length (partFile s i)) (drop (partStart s i) (take m after))) ≡ true
 collected-zero = job-padding .collected-zero

@@ -31,3 +31,8 @@ pub mod JudgeLaws
 pub mod JudgeRowLaws
 pub mod RunEnds
 pub mod RepeatLaws
+pub mod TallyLaws
+pub mod BandLaws
+pub mod StripLaws
+pub mod StripParts
+pub mod CrossLaws

@@ -21,12 +21,12 @@ use Rattle.seq.specs.Lists.{count}
 use Rattle.seq.specs.Tab.{upTo}
 use Rattle.seq.proofs.Grid.{grid, grid-at, grid-ext, by-cell, cell-at, cell-tab, next-row}
 use Rattle.seq.proofs.Lists.{count-ext}
+use Rattle.seq.proofs.Members.{count-add}
 use Rattle.seq.proofs.Tab.{tab-of, upTo-elim}
 use Rattle.seq.proofs.Tests.{lt-or-le}
 use Rattle.image.proofs.PixelsOf.{binary-at}
 use Rattle.operator.specs.Image.{pixel, IsImage, added, removed}
 use Rattle.filter.specs.Code.Turn.{turned}
-use Rattle.filter.proofs.TurnTally.{count-add}
 
 abbrev pub before : ℕ → (ℕ → ℕ → Bool) → ℕ → ℕ → Bool
 before n S r c = ltb r n && S r c

@@ -4,7 +4,7 @@
 --     lanes-half, lanes-le        the lanes with bit 1, and that there are at most four
 --     tallied-none, tallied-more  a loop's start and one byte more
 --     tallied-join, tallied-le    two stretches, and a bound
---     count-zero, count-add       the count below 0 and below a sum
+--     count-zero                  the count below 0
 --     count-behind                the count where nothing passes behind a bound
 --     tallied-lanes, tallied-row  the count over a row's bytes, lane by lane, and by columns
 -- Assumes nothing.
@@ -22,8 +22,8 @@ use Rattle.seq.specs.Bits.{bit}
 use Rattle.seq.specs.Lists.{all, one, count, sumOf}
 use Rattle.seq.specs.Tab.{tab, upTo}
 use Rattle.seq.proofs.Bits.{bit-half}
-use Rattle.seq.proofs.Lists.{count-ext, count-le, count-none, count-append, sumOf-append}
-use Rattle.seq.proofs.Members.{count-tab}
+use Rattle.seq.proofs.Lists.{count-ext, count-le, count-none, sumOf-append}
+use Rattle.seq.proofs.Members.{count-add}
 use Rattle.seq.proofs.Stores.{tab-add}
 use Rattle.seq.proofs.Tab.{tab-suc, tab-ext, upTo-elim, upTo-test, count-upTo}
 use Rattle.filter.specs.Code.Plane.{band}
@@ -91,13 +91,6 @@ module _ (v : ℕ) (flips : List ℕ) (from : ℕ) where
   unfolding laneCount upTo
   tallied-lanes zero = omega (arith, tallied-none)
   tallied-lanes (suc n) = omega (arith, tallied-suc n, tallied-lanes n, lane-more 0 n, lane-more 1 n, lane-more 2 n, lane-more 3 n)
-
-pub count-add : (p : ℕ → Bool) (m n : ℕ) → count p (upTo (m + n)) ≡ count p (upTo m) + count (λ i. p (m + i)) (upTo n)
-unfolding upTo
-count-add p m n =
-    ap (count p) (tab-add (λ k. k) m n)
-    ∙ count-append p (tab (λ k. k) m) (tab (λ k. m + k) n)
-    ∙ ap (λ (x : ℕ). count p (upTo m) + x) (count-tab p (λ k. m + k) n)
 
 pub count-zero : (p : ℕ → Bool) → count p (upTo 0) ≡ 0
 unfolding upTo

@@ -11,3 +11,4 @@ pub mod Show
 pub mod Rows
 pub mod Extend
 pub mod Run
+pub mod Strip

@@ -3,3 +3,4 @@ pub mod Applied
 pub mod Previewed
 pub mod Code
 pub mod Repeated
+pub mod Crossed

@@ -138,7 +138,13 @@ fn check(table: Table, width: usize, height: usize, pixels: &[u8], area: usize) 
     Verdict::Accepted
 }
 
-fn filtered(table: Table, width: usize, height: usize, pixels: &[u8], next: &mut [u8]) -> Changes
+pub(crate) fn filtered(
+    table: Table,
+    width: usize,
+    height: usize,
+    pixels: &[u8],
+    next: &mut [u8],
+) -> Changes
     requires { ⌜ (ranged table ≡ true) × IsImage width height (now pixels) × (width ≤ maxSide) × (height ≤ maxSide) × (width * height ≤ length (now next)) ⌝ }
     ensures { λ r. ⌜ Switched table width height (now (pixels .entry)) (now (next .entry)) (now (next .exit)) (r .added) (r .removed) ⌝ }
 {

@@ -12,10 +12,13 @@ mod rows;
 mod run;
 mod scratch;
 mod show;
+pub mod strip;
 mod sweep;
+mod tally;
 mod turn;
 mod window;
 
+use image::strip::PartCounts;
 use verdict::Refusal;
 
 // What one pass answers: the pixels that went from 0 to 1 and from 1 to 0.
@@ -44,5 +47,13 @@ pub struct Repeated {
     pub passes: usize,
     pub added: usize,
     pub removed: usize,
+    pub end: End,
+}
+
+// One pass over a strip: the pixels that went from 0 to 1 and from 1 to 0, in all and of each part, and how it ended. Where it is not made, all are 0.
+pub struct Crossed {
+    pub added: usize,
+    pub removed: usize,
+    pub parts: PartCounts,
     pub end: End,
 }

@@ -1,4 +1,5 @@
 -- What 01 says of record, areas and history after a list, from the relation.
+--     files-sized                      the parts have the last image's pixels
 --     agrees                           record, areas and entry agree
 --     stage-empty, stage-settled       stage 0 and 2
 --     after-related                    all of it
@@ -6,33 +7,59 @@
 use mathlib.Core.Bool.{Bool, true, false}
 use mathlib.Core.Logic.{_↔_}
 use mathlib.Core.Path.{_≡_, refl, sym, ap, _∙_, subst}
-use Prim.Native.Nat.{ℕ}
+use Prim.Native.Nat.{ℕ, _*_}
 use native.Mathlib.Omega.{arith}
+use lib.ListN.{length, getD}
 use Rattle.history.specs.declared.Job.{Job}
 use Rattle.history.specs.Demand3.{Agrees, RunAsPasses, AfterList}
 use Rattle.history.specs.History.{Entry, History, empty, holds, Lengths}
-use Rattle.history.specs.Lists.{Course, lengthsOf}
+use Rattle.history.specs.Lists.{Course, lengthsOf, overSteps}
 use Rattle.history.specs.State.{State, emptyJob}
 use Rattle.history.proofs.Never14.{never-14}
 use Rattle.history.proofs.Pass.{last-image}
 use Rattle.history.proofs.Refused.{answered, refused, unaltered}
-use Rattle.history.proofs.Related.{stageOf, Held, RelatedTo, Related}
+use Rattle.history.proofs.Related.{stageOf, stepCounts, Held, RelatedTo, Related}
 use Rattle.history.proofs.Row.{row-bound, row-single, row-balance}
 use Rattle.history.proofs.Run.{run-as-passes}
 use Rattle.history.proofs.View.{view-held, operated-held}
+use Rattle.image.proofs.PartFiles.{parts-back}
+use Rattle.image.proofs.Shapes.{good-shape, of-heights, of-shape, padded-tab}
+use Rattle.image.specs.Strip.{maxParts, stripOf}
+use Rattle.operator.specs.Parts.{addedIn, removedIn}
+use Rattle.seq.proofs.Tab.{getD-tab}
+use Rattle.seq.specs.Lists.{sumOf}
+
+-- what part i gained and lost, over all steps
+abbrev steps-added : Entry → ℕ → ℕ
+steps-added e i = overSteps (λ a b. addedIn (e .width) (e .parts) a b i) e
+
+abbrev steps-removed : Entry → ℕ → ℕ
+steps-removed e i = overSteps (λ a b. removedIn (e .width) (e .parts) a b i) e
+
+-- the parts have the last image's pixels
+pub files-sized : {s : State} {e : Entry} {n : ℕ} → Held s e n → length (e .last) ≡ e .width * sumOf (e .parts)
+files-sized {e = e} r = last-image r .sized ∙ ap (λ (h : ℕ). e .width * h) (r .parts .height ∙ ap sumOf (of-heights (r .listed)))
 
 pub agrees : {s : State} {e : Entry} {n : ℕ} → Held s e n → Agrees s e
-agrees {s} r = record {
+unfolding stepCounts
+agrees {s} {e} r = record {
   table = ap (λ (j : Job). j .table) (r .job);
   width = ap (λ (j : Job). j .width) (r .job);
   height = ap (λ (j : Job). j .height) (r .job);
+  strip = ap (λ (j : Job). j .strip) (r .job);
+  rows = sym (r .parts .height ∙ ap sumOf (of-heights (r .listed)));
   accepted = r .accepted;
-  sized = r .sized;
+  sized = good-shape (stripOf (e .width) (e .parts)) (of-shape (r .listed));
   image = last-image r;
   view = view-held r;
   passes = ap (λ (j : Job). j .passes) (r .job);
   added = ap (λ (j : Job). j .added) (r .job);
   removed = ap (λ (j : Job). j .removed) (r .job);
+  part-added = λ i l. ap (λ (j : Job). getD (j .counts .added) i 0) (r .job) ∙ getD-tab (steps-added e) maxParts i 0 (omega (arith, r .listed .few));
+  part-removed = λ i l. ap (λ (j : Job). getD (j .counts .removed) i 0) (r .job) ∙ getD-tab (steps-removed e) maxParts i 0 (omega (arith, r .listed .few));
+  added-sum = rw (r .job) (sym (ap sumOf (padded-tab (steps-added e))) ∙ r .parts .added .sum);
+  removed-sum = rw (r .job) (sym (ap sumOf (padded-tab (steps-removed e))) ∙ r .parts .removed .sum);
+  files = parts-back (r .listed) (e .last) (files-sized r) (last-image r .binary);
   balance = rw (r .job) (row-balance (r .accepted) (r .row) (r .begun));
   single = row-single (r .accepted) (r .row) (r .begun);
   bound = row-bound (r .accepted) (r .row) (r .begun);

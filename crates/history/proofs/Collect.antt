@@ -10,12 +10,12 @@ use lib.Dec.{eqb}
 use lib.ListN.{length}
 use Rattle.history.specs.Call.{collect}
 use Rattle.history.specs.Collect.{collected, collectVerdict, collectAs, collectState}
-use Rattle.history.specs.History.{Entry, History, empty, holds, refusedBy, accepted, afterAs, after}
+use Rattle.history.specs.History.{Entry, History, empty, holds, filesOf, refusedBy, accepted, afterAs, after}
 use Rattle.history.specs.Lists.{lengthsOf, tallied, tallyAs}
 use Rattle.history.specs.State.{State, emptyJob}
 use Rattle.history.proofs.Related.{stageOf, Held, RelatedTo}
 use Rattle.history.proofs.Sound.{sound-empty, sound-held, stage-held}
-use Rattle.image.specs.File.{imageBytes}
+use Rattle.image.proofs.Shapes.{of-heights}
 use Rattle.verdict.specs.declared.Verdict.{Verdict}
 use Rattle.verdict.specs.declared.Verdict.the-variants.{Accepted, Refused}
 
@@ -29,9 +29,9 @@ unfolding collectVerdict refusedBy emptyJob
 collect-empty out s q = rw (sound-empty s q, q)
 
 module _ {s : State} {e : Entry} {n : ℕ} (r : Held s e n) where
-  pub collected-held : collected s ≡ imageBytes (e .width) (e .height) (e .last)
-  unfolding collected
-  collected-held = rw (r .shown, r .job)
+  pub collected-held : collected s ≡ filesOf e
+  unfolding collected filesOf
+  collected-held = rw (r .shown, r .job, of-heights (r .listed))
 
   pub collect-held : (out : List ℕ) → collectVerdict (length out) s ≡ refusedBy (collect out) (lengthsOf s) (holds e)
   unfolding collectVerdict refusedBy

@@ -14,8 +14,8 @@ use Rattle.history.specs.Lists.{start, play}
 use Rattle.history.proofs.After.{held, after-related}
 use Rattle.history.proofs.Lists.{played-related, played-lengths, play-append}
 use Rattle.history.proofs.Related.{Held}
-use Rattle.history.proofs.Reload.{reloads}
-use Rattle.history.proofs.Twins.{exchanged, ordered, located, rests}
+use Rattle.history.proofs.Reload.{reloads, relaid}
+use Rattle.history.proofs.Twins.{exchanged, ordered, located, alone, rests}
 
 after-list : (cs : List Call) (a b : List ℕ) → AfterList (lent a b) (played cs a b)
 after-list cs a b = after-related (lent a b) (played cs a b) (played-related cs a b) (played-lengths cs a b)
@@ -36,5 +36,7 @@ demand-3 = record {
   ordered = λ cs cs' a b a' b' e e' two. ordered two (held-after cs a b e (two .here)) (held-after cs' a' b' e' (two .there));
   located = λ cs cs' a b a' b' e e' two. located two (held-after cs a b e (two .here)) (held-after cs' a' b' e' (two .there));
   rests = λ cs a b e q. rests (held-after cs a b e q);
-  reloaded = λ cs a b out e m after q. reloads (played cs a b) (played-related cs a b) e q out;
+  reloaded = λ cs a b out e m after q one wrote. reloads (played cs a b) (played-related cs a b) e q out wrote one;
+  relaid = λ cs a b out e m after q wrote. relaid (played cs a b) (played-related cs a b) e q out wrote;
+  alone = λ cs cs' a b a' b' e e' i two. alone two (held-after cs a b e (two .here)) (held-after cs' a' b' e' (two .there));
 }

@@ -1,7 +1,7 @@
 -- Images, and those of a file.
 --     none-above     no pixel is above 1
 --     file-image     an accepted file holds an image
---     image-writable     the image writer accepts an image of a size within the limits
+--     image-writable     the image writer accepts an image of a size within the limits; strip-writable: the writer of strips, one of such parts
 -- Assumes nothing.
 use mathlib.Core.Bool.{false}
 use mathlib.Core.List.{List}
@@ -11,9 +11,13 @@ use borrow.Author.Tests.{leb-true, le-ltb}
 use lib.Dec.{leb, ltb}
 use Rattle.image.proofs.Facts.{accepted-file}
 use Rattle.image.proofs.PixelsOf.{good-pixels, binary-at}
+use Rattle.image.proofs.Shapes.{Shape}
+use Rattle.image.proofs.Strips.{good-strip}
 use Rattle.image.specs.File.{fileVerdict, imageOf, pixelVerdict}
 use Rattle.image.specs.Header.{widthOf, heightOf}
+use Rattle.image.specs.declared.strip.Strip.{Strip}
 use Rattle.image.specs.Size.{badSize}
+use Rattle.image.specs.Strip.{stripWidth, stripHeight, stripVerdict}
 use Rattle.operator.specs.Image.{IsImage}
 use Rattle.seq.specs.Lists.{any}
 use Rattle.seq.proofs.Lists.{any-none, all-elim}
@@ -28,3 +32,6 @@ file-image f e = let x = accepted-file f e in record { wide = x .within .wide; h
 pub image-writable : {w h : ℕ} {img : List ℕ} → badSize w h ≡ false → IsImage w h img → pixelVerdict w h img ≡ Accepted
 image-writable {w} {h} {img} size i =
     good-pixels w h img (record { size = size; count = i .sized; small = λ k l. binary-at img k (i .binary) })
+
+pub strip-writable : {p : Strip} {img : List ℕ} → Shape p → IsImage (stripWidth p) (stripHeight p) img → stripVerdict p img ≡ Accepted
+strip-writable {p} {img} g i = good-strip p img (record { shape = g; bytes = record { count = i .sized; small = λ k l. binary-at img k (i .binary) } })

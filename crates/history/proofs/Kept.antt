@@ -21,7 +21,7 @@ use Rattle.history.specs.Load.{loadRules, loadVerdict, loadAs, loadState
 use Rattle.history.specs.Pass.{nextImage, withNext, changedJob, stableJob, passOf}
 use Rattle.history.specs.Run.{runOf}
 use Rattle.history.specs.Sound.{Ready}
-use Rattle.history.specs.Source.{Source, sourceWidth, sourceHeight, sourcePixels}
+use Rattle.history.specs.Source.{Source, sourceVerdict, sourceWidth, sourceHeight, sourcePixels}
 use Rattle.history.specs.State.{State, pixels, even}
 use Rattle.history.proofs.Passes as passes
 use Rattle.history.proofs.Passes.{Way, way, changed}
@@ -97,7 +97,11 @@ passes-stay (suc k) s g =
 run-stays : (s : State) → Stays (pixels (s .job)) s (runOf s .state)
 run-stays s = let x = ends s in rw (x .last) (passes-stay (x .finished) s (x .goes))
 
--- an accepted load has room in the first area
+-- an accepted load has an accepted source, and room in the first area
+load-source : (t : Table) (x : Source) (s : State) → loadVerdict t x s ≡ Accepted → sourceVerdict x ≡ Accepted
+unfolding loadVerdict
+load-source t x s e = judge-accepted {vs = loadRules t x s} e (List·Memᴰ·tail (List·Memᴰ·tail (List·Memᴰ·tail (List·Memᴰ·head refl))))
+
 load-room : (t : Table) (x : Source) (s : State) → loadVerdict t x s ≡ Accepted → sourceWidth x * sourceHeight x ≤ length (s .first)
 unfolding loadVerdict
 load-room t x s e =
@@ -113,9 +117,9 @@ load-stays t x s = by (loadVerdict t x s) refl
     by : (v : Verdict) → loadVerdict t x s ≡ v → Stays (sourceWidth x * sourceHeight x) s (loadAs v t x s)
     by (Refused r) e = same (sourceWidth x * sourceHeight x) s
     by Accepted e = record {
-      first-long = length-over (sourcePixels x) (s .first) (omega (arith, source-length x, load-room t x s e));
+      first-long = length-over (sourcePixels x) (s .first) (omega (arith, source-length x (load-source t x s e), load-room t x s e));
       second-long = refl;
-      first-past = drop-over (sourcePixels x) (s .first) (sourceWidth x * sourceHeight x) (source-length x);
+      first-past = drop-over (sourcePixels x) (s .first) (sourceWidth x * sourceHeight x) (source-length x (load-source t x s e));
       second-past = refl;
     }
 

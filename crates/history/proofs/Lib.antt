@@ -1,6 +1,7 @@
 pub mod Images
 pub mod Sources
 pub mod Areas
+pub mod Parts
 pub mod Ready
 pub mod Rounding
 pub mod Unsound

@@ -6,7 +6,7 @@
 -- Assumes nothing.
 use mathlib.Core.Bool.{false, _||_}
 use mathlib.Core.List.{[], _∷_}
-use mathlib.Core.Path.{_≡_, refl}
+use mathlib.Core.Path.{_≡_, refl, sym}
 use Prim.Native.Nat.{ℕ, _*_, _≤_}
 use native.Mathlib.Omega.{arith}
 use borrow.Author.Tests.{ltb-false}
@@ -18,9 +18,10 @@ use Rattle.history.specs.Lists.{lengthsOf, tallied, tallyAs}
 use Rattle.history.specs.Load.{areasRule, loadVerdict, loadedJob, loadAs, loadState}
 use Rattle.history.specs.Source.{Source, sourceVerdict, sourceWidth, sourceHeight, sourcePixels}
 use Rattle.history.specs.State.{State, emptyJob, present, image}
-use Rattle.history.proofs.Related.{Held, RelatedTo}
+use Rattle.history.proofs.Related.{stepCounts, Held, RelatedTo}
+use Rattle.history.proofs.Parts.{good-loaded}
 use Rattle.history.proofs.Row.{alone}
-use Rattle.history.proofs.Sources.{source-sized, source-image}
+use Rattle.history.proofs.Sources.{source-parts, source-listed, source-image}
 use Rattle.history.proofs.Sound.{sound-empty, sound-held, stage-held}
 use Rattle.seq.proofs.Lists.{clash}
 use Rattle.seq.proofs.Tests.{or-none-left, or-none-right}
@@ -79,11 +80,12 @@ fits t x s a = record {
 
 -- the image is read back from the first area, and there is no step yet
 load-entered : (t : Table) (x : Source) (s : State) → Fits t x s → Held (loadAs Accepted t x s) (entered t x) 0
-unfolding entered loadedJob image present
+unfolding entered loadedJob stepCounts image present
 load-entered t x s y = let sized = source-image x (y .source) .sized in record {
   job = refl;
   accepted = y .table;
-  sized = source-sized x (y .source);
+  parts = good-loaded (loadedJob t x) (source-listed x (y .source)) refl (sym (source-parts x)) refl refl refl refl;
+  listed = source-listed x (y .source);
   first-long = rw (length-over (sourcePixels x) (s .first) (omega (arith, y .first-long))) (y .first-long);
   second-long = y .second-long;
   shown = take-over (sourcePixels x) (s .first) _ sized;

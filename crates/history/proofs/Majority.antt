@@ -5,7 +5,7 @@
 use mathlib.Core.Bool.{false}
 use mathlib.Core.List.{List, [], _∷_}
 use mathlib.Core.Logic.{_≢_}
-use mathlib.Core.Path.{_≡_, refl, sym, _∙_}
+use mathlib.Core.Path.{_≡_, refl, sym, ap, _∙_}
 use Prim.Native.Nat.{ℕ}
 use borrow.Author.Tests.{eq-eqb}
 use lib.ListN.{length}
@@ -20,11 +20,11 @@ use Rattle.history.proofs.Demand3.{demand-3}
 use Rattle.history.proofs.Images.{image-writable}
 use Rattle.history.proofs.Padding.{load-refusals}
 use Rattle.history.proofs.SameSource.{SameSource, same-answer, same-course}
-use Rattle.history.proofs.Sources.{three-images, source-sized, source-image}
-use Rattle.image.proofs.Facts.{image-binary}
+use Rattle.history.proofs.Sources.{three-images, source-image, three-numbers}
+use Rattle.image.proofs.Facts.{accepted-file, image-binary}
 use Rattle.image.proofs.Ignored.{same-image}
 use Rattle.image.proofs.RoundTrip.{image-round-trip}
-use Rattle.image.proofs.ThreeFiles.{majority-same}
+use Rattle.image.proofs.ThreeFiles.{majority-same, three-good}
 use Rattle.image.specs.File.{imageOf, fileVerdict}
 use Rattle.image.specs.Header.{widthOf, heightOf}
 use Rattle.image.specs.Majority.{sizeDiffers, threeRules, threeVerdict}
@@ -39,12 +39,16 @@ use Rattle.verdict.specs.Rules.{refuseIf, judge}
 use Rattle.verdict.proofs.Numbers.{one-of-other}
 use Rattle.verdict.proofs.Rules.{judge-within}
 
+-- the parts of a single image
+abbrev one-part : ℕ → List ℕ
+one-part h = h ∷ []
+
 -- the file of the majority is accepted, and gives it back
 as-one : (f g h : List ℕ) → threeVerdict f g h ≡ Accepted → SameSource (fromThree f g h) (fromFile (majorityFile f g h))
 as-one f g h e =
     let whole = source-image (fromThree f g h) e in
-    let back = image-round-trip .image-back (widthOf f) (heightOf f) _ (image-writable (source-sized (fromThree f g h) e) whole) in
-    record { verdict = e ∙ sym (back .accepted); width = sym (back .width); height = sym (back .height); pixels = sym (back .pixels) }
+    let back = image-round-trip .image-back (widthOf f) (heightOf f) _ (image-writable (accepted-file f (three-good f g h e .first) .sized) whole) in
+    record { verdict = e ∙ sym (back .accepted); width = sym (back .width); height = sym (back .height); parts = ap one-part (sym (back .height)); pixels = sym (back .pixels) }
 
 same-verdict : (f : List ℕ) → threeVerdict f f f ≡ fileVerdict f
 unfolding threeVerdict
@@ -59,7 +63,7 @@ same-verdict f = by (fileVerdict f)
     by (Refused r) = refl
 
 as-same : (f : List ℕ) → SameSource (fromThree f f f) (fromFile f)
-as-same f = record { verdict = same-verdict f; width = refl; height = refl; pixels = majority-same (imageOf f) (image-binary f) }
+as-same f = record { verdict = same-verdict f; width = refl; height = refl; parts = refl; pixels = majority-same (imageOf f) (image-binary f) }
 
 as-alike : (f g h f' g' h' : List ℕ) → cleared f ≡ cleared f' → cleared g ≡ cleared g' → cleared h ≡ cleared h'
     → SameSource (fromThree f g h) (fromThree f' g' h')
@@ -72,6 +76,7 @@ as-alike f g h f' g' h' p q r =
       verdict = rw (x .verdict, y .verdict, z .verdict, x .width, x .height, y .width, y .height, z .width, z .height);
       width = x .width;
       height = x .height;
+      parts = ap one-part (x .height);
       pixels = rw (x .pixels, y .pixels, z .pixels);
     }
 
@@ -94,7 +99,7 @@ module _ {e e' : Entry} {f g h f' g' h' : List ℕ} (x : FromThree e f g h) (x' 
 
 never : (t : Table) (f g h : List ℕ) (s : State) (r : Refusal) → refusalOf (answerOf (load t (fromThree f g h)) s) ≡ Refused r → r .number ≢ 12
 unfolding answerOf
-never t f g h s r q = one-of-other (load-refusals t (fromThree f g h) s) refl q
+never t f g h s r q = one-of-other (load-refusals t (fromThree f g h) s (three-numbers f g h)) refl q
 
 entry : (t : Table) (f g h : List ℕ) → threeVerdict f g h ≡ Accepted → FromThree (entered t (fromThree f g h)) f g h
 unfolding entered

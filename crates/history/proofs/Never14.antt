@@ -11,12 +11,11 @@ use Prim.Native.Nat.{ℕ}
 use lib.Dec.{ltb}
 use lib.ListN.{length}
 use Rattle.history.specs.Call.{Call, load, pass, run, view, figures, collect}
-use Rattle.history.specs.History.{History, empty, holds, Lengths, refusedBy}
+use Rattle.history.specs.History.{History, empty, holds, Lengths, filesOf, refusedBy}
 use Rattle.history.specs.Load.{areasRule}
 use Rattle.history.specs.Source.{Source, sourceVerdict}
 use Rattle.history.proofs.Refusals.{input-says}
 use Rattle.history.proofs.Sources.{source-numbers}
-use Rattle.image.specs.File.{imageBytes}
 use Rattle.table.proofs.Verdicts.{record-numbers}
 use Rattle.table.specs.declared.Table.{Table}
 use Rattle.table.specs.Record.{recordVerdict}
@@ -28,7 +27,7 @@ use Rattle.verdict.proofs.Numbers.{says-if, says-or, one-of-more, one-of-other}
 
 -- because of the input
 abbrev pub inputNumbers : List ℕ
-inputNumbers = 3 ∷ 4 ∷ 5 ∷ 6 ∷ 7 ∷ 9 ∷ 10 ∷ 11 ∷ 13 ∷ 18 ∷ 26 ∷ []
+inputNumbers = 3 ∷ 4 ∷ 5 ∷ 6 ∷ 7 ∷ 9 ∷ 10 ∷ 11 ∷ 12 ∷ 13 ∷ 18 ∷ 23 ∷ 26 ∷ []
 
 -- and because of the state, without 14
 abbrev callNumbers : List ℕ
@@ -52,7 +51,7 @@ call-numbers figures n (holds e) = accepts
 call-numbers (collect out) n empty = refuses (by refl)
 call-numbers (collect out) n (holds e) =
     says-or (says-if (not (e .settled)) 17 0 (by refl))
-    (says-or (says-if (ltb (length out) (length (imageBytes (e .width) (e .height) (e .last)))) 13 0 (by refl)) accepts)
+    (says-or (says-if (ltb (length out) (length (filesOf e))) 13 0 (by refl)) accepts)
 
 pub never-14 : (c : Call) (n : Lengths) (H : History) (r : Refusal) → refusedBy c n H ≡ Refused r → r .number ≢ 14
 never-14 c n H r q = one-of-other (call-numbers c n H) refl q

@@ -7,15 +7,15 @@
 --     pass-held                                 the relation after a pass
 -- Assumes nothing.
 use mathlib.Core.Bool.{true, false}
-use mathlib.Core.List.{_∷_}
+use mathlib.Core.List.{List, _∷_}
 use mathlib.Core.Logic.{⊎-elim}
-use mathlib.Core.Path.{_≡_, refl, sym, ap, _∙_}
+use mathlib.Core.Path.{_≡_, refl, sym, ap, ap₂, _∙_, subst}
 use Prim.Native.Nat.{ℕ, _+_, _*_, _≤_}
 use native.Mathlib.Nat.{add-comm}
 use native.Mathlib.Numerals.{add-one}
 use native.Mathlib.Omega.{arith}
 use borrow.Author.Tests.{le-ltb}
-use lib.ListN.{length}
+use lib.ListN.{length, getD}
 use Rattle.operator.specs.Image.{IsImage, added, removed, differs}
 use Rattle.operator.specs.Pass as operator
 use Rattle.operator.proofs.Counts.{all-counts, differs-equal}
@@ -23,14 +23,21 @@ use Rattle.history.specs.declared.Job.{Job}
 use Rattle.history.specs.declared.Passed.the-variants as answer
 use Rattle.history.specs.History.{Entry, nextOf, joined, marked, passed}
 use Rattle.history.specs.Lists.{firstOf, overSteps}
-use Rattle.history.specs.Pass.{nextImage, nowAdded, nowRemoved, exceeds, withNext, changedJob, stableJob, changing, passLoaded, passReady, passOf}
+use Rattle.history.specs.Pass.{nextImage, nowAdded, nowRemoved, nowCounts, exceeds, withNext, changedJob, stableJob, changing, passLoaded, passReady, passOf}
 use Rattle.history.specs.State.{State, pixels}
 use Rattle.history.proofs.Areas.{next-job, next-first, next-second, next-changed, next-stable}
 use Rattle.history.proofs.Entries.{passed-settled, passed-changed, passed-quiet}
-use Rattle.history.proofs.Related.{jobOf, Held}
+use Rattle.history.proofs.Related.{stepCounts, jobOf, Held}
+use Rattle.history.proofs.Parts.{GoodParts}
+use Rattle.history.proofs.Ready.{ready-parts, ready-changed, ready-stable}
 use Rattle.history.proofs.Row.{Row, next, row-image, row-bound, row-changes}
-use Rattle.history.proofs.Sound.{ready-held}
+use Rattle.history.proofs.Sound.{held-ready, ready-held}
+use Rattle.image.proofs.Shapes.{of-heights}
+use Rattle.image.specs.Strip.{maxParts}
+use Rattle.operator.specs.Parts.{addedIn, removedIn, partCounts, summed}
 use Rattle.seq.proofs.Lists.{clash, either}
+use Rattle.seq.proofs.Tab.{tab-ext, getD-tab}
+use Rattle.seq.specs.Tab.{tab}
 
 -- the ways that a pass goes: with the mark it alters nothing; else the new image differs, or it does not
 pub data Turn (s : State) (e : Entry) : Type 0 where
@@ -56,13 +63,25 @@ module _ {s : State} {e : Entry} {n : ℕ} (r : Held s e n) where
   next-sized : length (nextImage s) ≡ pixels (s .job)
   next-sized = rw (next-image, r .job) (next-of-image .sized)
 
+  -- a step more, in each part
+  changed-counts : nowCounts s ≡ stepCounts (joined e)
+  unfolding nowCounts summed partCounts stepCounts joined
+  changed-counts =
+      rw (next-image, r .shown, r .job, of-heights (r .listed))
+      (ap₂ (λ (a d : List ℕ). record { added = a; removed = d })
+      (more (λ i. overSteps (λ a b. addedIn (e .width) (e .parts) a b i) e) (addedIn (e .width) (e .parts) (e .last) (nextOf e)))
+      (more (λ i. overSteps (λ a b. removedIn (e .width) (e .parts) a b i) e) (removedIn (e .width) (e .parts) (e .last) (nextOf e))))
+    where
+      more : (f g : ℕ → ℕ) → tab (λ i. getD (tab f maxParts) i 0 + getD (tab g maxParts) i 0) maxParts ≡ tab (λ i. g i + f i) maxParts
+      more f g = tab-ext (λ i. getD (tab f maxParts) i 0 + getD (tab g maxParts) i 0) (λ i. g i + f i) maxParts (λ i l. omega (arith, getD-tab f maxParts i 0 l, getD-tab g maxParts i 0 l))
+
   changed-job : changedJob s ≡ jobOf (joined e)
   unfolding changedJob nowAdded nowRemoved joined
   changed-job =
-      rw (next-image, r .shown, r .job, add-one, add-comm (overSteps added e) _, add-comm (overSteps removed e) _)
+      rw (changed-counts, next-image, r .shown, r .job, add-one, add-comm (overSteps added e) _, add-comm (overSteps removed e) _)
 
   stable-job : stableJob s ≡ jobOf (marked e)
-  unfolding stableJob marked
+  unfolding stableJob marked stepCounts
   stable-job = rw (r .job)
 
   -- the row with the new image obeys the bounds, so 14's pass clause does not hold
@@ -111,7 +130,8 @@ module _ {s : State} {e : Entry} {n : ℕ} (r : Held s e n) where
   held-resting q = record {
     job = r .job;
     accepted = r .accepted;
-    sized = r .sized;
+    parts = r .parts;
+    listed = r .listed;
     first-long = r .first-long;
     second-long = r .second-long;
     shown = r .shown;
@@ -127,7 +147,8 @@ module _ {s : State} {e : Entry} {n : ℕ} (r : Held s e n) where
   held-changed d = record {
     job = next-job (changedJob s) s ∙ changed-job;
     accepted = r .accepted;
-    sized = r .sized;
+    parts = subst GoodParts (next-job (changedJob s) s ∙ changed-job) (ready-parts (ready-changed (held-ready r) (within d)));
+    listed = r .listed;
     first-long = first-kept (changedJob s);
     second-long = second-kept (changedJob s);
     shown = next-changed s next-sized ∙ next-image;
@@ -147,7 +168,8 @@ module _ {s : State} {e : Entry} {n : ℕ} (r : Held s e n) where
   held-quiet d = record {
     job = next-job (stableJob s) s ∙ stable-job;
     accepted = r .accepted;
-    sized = r .sized;
+    parts = subst GoodParts (next-job (stableJob s) s ∙ stable-job) (ready-parts (ready-stable (held-ready r)));
+    listed = r .listed;
     first-long = first-kept (stableJob s);
     second-long = second-kept (stableJob s);
     shown = next-stable s ∙ r .shown;

@@ -10,11 +10,11 @@ use mathlib.Core.Path.{_≡_, refl, sym, ap, _∙_}
 use Prim.Native.Nat.{ℕ}
 use native.Mathlib.Omega.{arith}
 use Rattle.history.specs.declared.Passed.the-variants as passing
-use Rattle.history.specs.Answered.{restIf, fileOf, figuresBy, answeredBy}
+use Rattle.history.specs.Answered.{restIf, figuresBy, answeredBy}
 use Rattle.history.specs.Call.{Call, load, pass, run, view, figures, collect, loaded, passed, shown, answerOf, stateOf, refusalOf}
 use Rattle.history.specs.Collect.{collectWritten, collectOutput}
 use Rattle.history.specs.History as book
-use Rattle.history.specs.History.{Entry, History, empty, holds, Lengths, refusedBy}
+use Rattle.history.specs.History.{Entry, History, empty, holds, Lengths, filesOf, refusedBy}
 use Rattle.history.specs.Lists.{lengthsOf}
 use Rattle.history.specs.Pass.{Outcome, passOf}
 use Rattle.history.specs.Run.{runOf}
@@ -61,7 +61,7 @@ module _ {s : State} {e : Entry} {n : ℕ} (r : Held s e n) where
       by (runs.goes a q p) = rw (a, q)
 
   answered-held : (c : Call) → answerOf c s ≡ answeredBy c (lengthsOf s) (holds e)
-  unfolding answerOf answeredBy viewOf figuresOf figuresBy collectWritten collectOutput fileOf refusedBy
+  unfolding answerOf answeredBy viewOf figuresOf figuresBy collectWritten collectOutput refusedBy
   answered-held (load t x) = ap loaded (load-held t x r)
   answered-held pass = ap passed answered-pass
   answered-held run = ap passed (run-answer r ∙ sym (ap restIf (ran-settled r)))
@@ -90,7 +90,7 @@ refused-by view n (holds e) = refl
 refused-by figures n empty = refl
 refused-by figures n (holds e) = refl
 refused-by (collect out) n empty = refl
-refused-by (collect out) n (holds e) = written-refusal (refusedBy (collect out) n (holds e)) (fileOf e)
+refused-by (collect out) n (holds e) = written-refusal (refusedBy (collect out) n (holds e)) (filesOf e)
 
 pub refused : (c : Call) (s : State) (H : History) (n : ℕ) → RelatedTo s H n → refusalOf (answerOf c s) ≡ refusedBy c (lengthsOf s) H
 refused c s H n r = ap refusalOf (answered c s H n r) ∙ refused-by c (lengthsOf s) H

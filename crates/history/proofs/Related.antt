@@ -1,10 +1,11 @@
 -- The relation between record, areas and history that every call keeps.
 --     stageOf b          the stage, with or without the mark
+--     stepCounts e       what each part gained and lost
 --     jobOf e            the record that an entry says
 --     Held s e n         record and areas hold the entry e, after n accepted passes since the load
 --     Related w          the relation, after any list of calls
 -- Assumes nothing.
-use mathlib.Core.Bool.{Bool, true, false, cond}
+use mathlib.Core.Bool.{Bool, true, cond}
 use mathlib.Core.Path.{_≡_}
 use Prim.Native.Nat.{ℕ, _*_, _≤_}
 use lib.ListN.{length}
@@ -15,13 +16,26 @@ use Rattle.history.specs.History.{Entry, History, empty, holds}
 use Rattle.history.specs.Lists.{Course, firstOf, overSteps}
 use Rattle.history.specs.State.{State, emptyJob, image}
 use Rattle.history.proofs.Row.{Row}
-use Rattle.image.specs.Size.{badSize}
+use Rattle.history.proofs.Parts.{GoodParts}
+use Rattle.image.proofs.Shapes.{Listed}
+use Rattle.image.specs.declared.strip.PartCounts.{PartCounts}
+use Rattle.image.specs.Strip.{maxParts, stripOf}
+use Rattle.operator.specs.Parts.{addedIn, removedIn}
+use Rattle.seq.specs.Tab.{tab}
 use Rattle.table.specs.Record.{recordVerdict}
 use Rattle.verdict.specs.declared.Verdict.the-variants.{Accepted}
 
 -- stage 2 with the mark, else 1
 abbrev pub stageOf : Bool → ℕ
 stageOf b = cond b 2 1
+
+-- what each part gained and lost, over all steps
+unfoldable pub stepCounts : Entry → PartCounts
+stepCounts e =
+    record {
+      added = tab (λ i. overSteps (λ a b. addedIn (e .width) (e .parts) a b i) e) maxParts;
+      removed = tab (λ i. overSteps (λ a b. removedIn (e .width) (e .parts) a b i) e) maxParts;
+    }
 
 abbrev pub jobOf : Entry → Job
 jobOf e =
@@ -33,13 +47,16 @@ jobOf e =
       added = overSteps added e;
       removed = overSteps removed e;
       table = e .table;
+      strip = stripOf (e .width) (e .parts);
+      counts = stepCounts e;
     }
 
 pub record Held (s : State) (e : Entry) (n : ℕ) : Type 0 where
   pub job : s .job ≡ jobOf e
-  -- the table was accepted, and the size is within the limits
+  -- the table was accepted, and the parts are as 14 wants them
   pub accepted : recordVerdict (e .table) ≡ Accepted
-  pub sized : badSize (e .width) (e .height) ≡ false
+  pub parts : GoodParts (jobOf e)
+  pub listed : Listed (e .width) (e .parts)
   pub first-long : e .width * e .height ≤ length (s .first)
   pub second-long : e .width * e .height ≤ length (s .second)
   -- the present image is the last of a row of passes from an image

@@ -2,37 +2,45 @@
 --     Same e d, same-passed, same-ran     two entries with one table, size and first image; so are those before and after passes
 --     Keeps e w, keeps-step, keeps-play   the history holds such an entry, and keeps one until a collect is accepted
 --     by-answer                           what an accepted collect wrote is the file of the last image
---     reloads                             the claim
+--     Again e x, again-file, again-strip  a source of the last image: the file of a single one, and the parts of any
+--     reloads, relaid                     the claims
 -- Assumes nothing.
 use mathlib.Core.Bool.{Bool, true, false, cond, not, _&&_}
 use mathlib.Core.List.{List, [], _∷_}
 use mathlib.Core.Path.{_≡_, refl, sym, ap, _∙_, subst}
 use Prim.Native.Nat.{ℕ, zero, suc, _+_, _*_}
+use native.Mathlib.Nat.{add-zero}
 use native.Mathlib.Omega.{arith}
 use borrow.Author.Tests.{not-false, le-ltb}
 use lib.ListN.{length, take}
 use Rattle.operator.specs.Image.{differs}
 use Rattle.operator.specs.Pass.{Stable}
-use Rattle.history.specs.Answered.{fileOf, answeredBy}
+use Rattle.history.specs.Answered.{answeredBy}
 use Rattle.history.specs.Call.{Call, load, pass, run, view, figures, collect, isCollect, collected, answerOf, stateOf, refusalOf}
 use Rattle.history.specs.Collect.{collectState}
 use Rattle.history.specs.Demand3.{Rests, Reloads}
-use Rattle.history.specs.History.{Entry, History, empty, holds, Lengths, entered, nextOf, joined, marked, passed, passedFor, ran, refusedBy, accepted, afterAs, after}
+use Rattle.history.specs.History.{Entry, History, empty, holds, Lengths, entered, nextOf, joined, marked, passed, passedFor, ran, filesOf, refusedBy, accepted, afterAs, after}
 use Rattle.history.specs.Lists.{Course, lengthsOf, tallied, step, play, uncollected, firstOf}
-use Rattle.history.specs.Source.{fromFile}
+use Rattle.history.specs.Source.{Source, fromFile, fromStrip, sourceVerdict, sourceWidth, sourceHeight, sourcePixels}
 use Rattle.history.specs.State.{State, emptyJob}
 use Rattle.history.proofs.After.{held}
 use Rattle.history.proofs.Collect.{collect-held}
 use Rattle.history.proofs.Kept.{kept}
 use Rattle.history.proofs.Lists.{keeps, play-related}
-use Rattle.history.proofs.Ready.{ready-writable}
+use Rattle.history.proofs.Images.{image-writable, strip-writable}
+use Rattle.history.proofs.Parts.{good-sides}
+use Rattle.history.proofs.Pass.{last-image}
 use Rattle.history.proofs.Refused.{answered, refused}
 use Rattle.history.proofs.Related.{Held, Related}
 use Rattle.history.proofs.Run.{course}
-use Rattle.history.proofs.Sound.{held-ready}
 use Rattle.history.proofs.Twins.{rests}
+use Rattle.image.proofs.PartFiles.{one-file}
 use Rattle.image.proofs.RoundTrip.{image-round-trip}
+use Rattle.image.proofs.Shapes.{of-heights, of-width, of-shape}
 use Rattle.image.specs.RoundTrip.{ReadBack}
+use Rattle.image.specs.File.{imageBytes}
+use Rattle.image.specs.Strip.{stripBytes, stripOf}
+use Rattle.seq.specs.Lists.{sumOf}
 use Rattle.seq.proofs.Lists.{clash, and-left, and-right}
 use Rattle.verdict.specs.declared.Verdict.{Verdict}
 use Rattle.verdict.specs.declared.Verdict.the-variants.{Accepted, Refused}
@@ -121,10 +129,44 @@ by-answer Accepted bytes out {m} {after} q =
     (refl, ap (take m) (sym o) ∙ take-over bytes out m n)
 by-answer (Refused x) bytes out q = absurd (let z : _≡_ {A = ℕ} 0 1 = cc in omega arith)
 
+-- a list of one
+single : (l : List ℕ) → length l ≡ 1 → (a : ℕ) × (l ≡ a ∷ [])
+single [] e = absurd (omega arith)
+single (a ∷ []) e = (a, refl)
+single (a ∷ b ∷ l) e = absurd (omega arith)
+
+-- a source whose image is the last one of an entry, loaded with its table
+record Again (e : Entry) (x : Source) : Type 0 where
+  accepted : sourceVerdict x ≡ Accepted
+  width : sourceWidth x ≡ e .width
+  height : sourceHeight x ≡ e .height
+  pixels : sourcePixels x ≡ e .last
+
 module _ {s : State} {e : Entry} {n : ℕ} (r : Held s e n) where
-  -- the file of the last image is accepted, and gives it back
-  back : ReadBack (e .width) (e .height) (e .last)
-  back = image-round-trip .image-back (e .width) (e .height) (e .last) (rw (r .shown, r .job) at (ready-writable (held-ready r)))
+  -- the file of a single last image is accepted, and gives it back
+  again-file : length (e .parts) ≡ 1 → Again e (fromFile (filesOf e))
+  unfolding filesOf stripOf
+  again-file one = by (single (e .parts) one)
+    where
+      by : (h : ℕ) × (e .parts ≡ h ∷ []) → Again e (fromFile (filesOf e))
+      by (h, list) =
+          let rows : e .height ≡ h = r .parts .height ∙ ap sumOf (of-heights (r .listed)) ∙ ap sumOf list ∙ add-zero h in
+          let back : ReadBack (e .width) (e .height) (e .last) = image-round-trip .image-back (e .width) (e .height) (e .last) (image-writable (good-sides (r .parts) one) (last-image r)) in
+          let file : stripBytes (e .width) (e .parts) (e .last) ≡ imageBytes (e .width) (e .height) (e .last) =
+          ap (λ hs. stripBytes (e .width) hs (e .last)) (list ∙ ap (λ (k : ℕ). k ∷ []) (sym rows)) ∙ one-file (e .width) (e .height) (e .last) (last-image r .sized) in
+          rw file (record { accepted = back .accepted; width = back .width; height = back .height; pixels = back .pixels })
+
+  -- so are the parts of the last image, laid end to end again
+  again-strip : Again e (fromStrip (stripOf (e .width) (e .parts)) (e .last))
+  again-strip = record {
+    accepted = strip-writable (of-shape (r .listed)) (rw (of-width (r .listed), of-heights (r .listed), sym rows) (last-image r));
+    width = of-width (r .listed);
+    height = ap sumOf (of-heights (r .listed)) ∙ sym rows;
+    pixels = refl;
+  }
+    where
+      rows : e .height ≡ sumOf (e .parts)
+      rows = r .parts .height ∙ ap sumOf (of-heights (r .listed))
 
   module _ (out : List ℕ) (ok : refusedBy (collect out) (lengthsOf s) (holds e) ≡ Accepted) where
     settled : e .settled ≡ true
@@ -148,53 +190,68 @@ module _ {s : State} {e : Entry} {n : ℕ} (r : Held s e n) where
     unfolding stateOf
     room = kept (collect out) s .lengths
 
-    abbrev again : Call
-    again = load (e .table) (fromFile (fileOf e))
-
-    -- so the load is accepted
-    fitting : refusedBy again (lengthsOf s) empty ≡ Accepted
-    unfolding refusedBy fileOf lengthsOf
-    fitting = rw (r .accepted, back .accepted, back .width, back .height, le-ltb _ _ (r .first-long), le-ltb _ _ (r .second-long))
-
-    admitted : refusedBy again (lengthsOf left) empty ≡ Accepted
-    admitted = ap (λ (k : Lengths). refusedBy again k empty) room ∙ fitting
-
     abbrev between : Course
     between = record { state = left; history = empty; tally = 0 }
 
-    -- the history then holds an entry whose first image is the last one, which is stable
-    begun : Keeps (entered (e .table) (fromFile (fileOf e))) (step again between)
-    unfolding step after accepted
-    begun = record { entry = entered (e .table) (fromFile (fileOf e)); held-by = rw admitted; like = same (entered (e .table) (fromFile (fileOf e))) }
+    module _ {x : Source} (a : Again e x) where
+      abbrev again : Call
+      again = load (e .table) x
 
-    like-last : (d : Entry) → Same (entered (e .table) (fromFile (fileOf e))) d
-        → (firstOf d ≡ e .last) × Stable (d .table) (d .width) (d .height) (firstOf d)
-    unfolding entered fileOf
-    like-last d x =
-        let first : firstOf d ≡ e .last = x .first ∙ back .pixels in
-        (first, rw (first, x .table, x .width ∙ back .width, x .height ∙ back .height) (r .stable settled))
+      abbrev anew : Entry
+      anew = entered (e .table) x
 
-    stays : (cs : List Call) → uncollected cs (step again between) ≡ true → Rests (e .last) (play cs (step again between) .state)
-    stays cs u =
-        let related : Related between = emptied in
-        let loaded = keeps again left empty 0 related in
-        let k = keeps-play cs (step again between) (entered (e .table) (fromFile (fileOf e))) loaded begun u in
-        let last = play-related cs (step again between) loaded in
-        let (first, stable) = like-last (k .entry) (k .like) in
-        subst (λ (img : List ℕ). Rests img (play cs (step again between) .state)) first
-        (rests (held (play cs (step again between)) last (k .entry) (k .held-by)) stable)
+      -- so the load is accepted
+      fitting : refusedBy again (lengthsOf s) empty ≡ Accepted
+      unfolding refusedBy lengthsOf
+      fitting = rw (r .accepted, a .accepted, a .width, a .height, le-ltb _ _ (r .first-long), le-ltb _ _ (r .second-long))
 
-    reloads-held : Reloads (step (collect out) (course s e n)) e (fileOf e)
-    reloads-held =
-        subst (λ (w : Course). Reloads w e (fileOf e)) (sym after-collect)
-        (record { accepted = refused again left empty 0 emptied ∙ admitted; rests = stays })
+      admitted : refusedBy again (lengthsOf left) empty ≡ Accepted
+      admitted = ap (λ (k : Lengths). refusedBy again k empty) room ∙ fitting
 
-pub reloads : (w : Course) → Related w → (e : Entry) → w .history ≡ holds e → (out : List ℕ) {m : ℕ} {after : List ℕ}
-    → answerOf (collect out) (w .state) ≡ collected (written.Length m) after → Reloads (step (collect out) w) e (take m after)
-unfolding answeredBy
-reloads w r e q out {m} {after} a =
-    let h = held w r e q in
-    let (ok, wrote) =
-    by-answer (refusedBy (collect out) (lengthsOf (w .state)) (holds e)) (fileOf e) out (sym (answered (collect out) (w .state) (holds e) (w .tally) h) ∙ a) in
-    let here : course (w .state) e (w .tally) ≡ w = ap (λ (H : History). record { state = w .state; history = H; tally = w .tally }) (sym q) in
-    rw wrote (subst (λ (v : Course). Reloads (step (collect out) v) e (fileOf e)) here (reloads-held h out ok))
+      -- the history then holds an entry whose first image is the last one, which is stable
+      begun : Keeps anew (step again between)
+      unfolding step after accepted
+      begun = record { entry = anew; held-by = rw admitted; like = same anew }
+
+      like-last : (d : Entry) → Same anew d → (firstOf d ≡ e .last) × Stable (d .table) (d .width) (d .height) (firstOf d)
+      unfolding entered
+      like-last d y =
+          let first : firstOf d ≡ e .last = y .first ∙ a .pixels in
+          (first, rw (first, y .table, y .width ∙ a .width, y .height ∙ a .height) (r .stable settled))
+
+      stays : (cs : List Call) → uncollected cs (step again between) ≡ true → Rests (e .last) (play cs (step again between) .state)
+      stays cs u =
+          let related : Related between = emptied in
+          let loaded = keeps again left empty 0 related in
+          let k = keeps-play cs (step again between) anew loaded begun u in
+          let last = play-related cs (step again between) loaded in
+          let (first, stable) = like-last (k .entry) (k .like) in
+          subst (λ (img : List ℕ). Rests img (play cs (step again between) .state)) first
+          (rests (held (play cs (step again between)) last (k .entry) (k .held-by)) stable)
+
+      reloads-held : Reloads (step (collect out) (course s e n)) e x
+      reloads-held =
+          subst (λ (w : Course). Reloads w e x) (sym after-collect)
+          (record { accepted = refused again left empty 0 emptied ∙ admitted; rests = stays })
+
+-- after an accepted collect
+module _ (w : Course) (r : Related w) (e : Entry) (q : w .history ≡ holds e) (out : List ℕ) {m : ℕ} {after : List ℕ}
+    (a : answerOf (collect out) (w .state) ≡ collected (written.Length m) after) where
+  here : Held (w .state) e (w .tally)
+  here = held w r e q
+
+  -- what was written
+  wrote : (refusedBy (collect out) (lengthsOf (w .state)) (holds e) ≡ Accepted) × (take m after ≡ filesOf e)
+  unfolding answeredBy
+  wrote = by-answer (refusedBy (collect out) (lengthsOf (w .state)) (holds e)) (filesOf e) out (sym (answered (collect out) (w .state) (holds e) (w .tally) here) ∙ a)
+
+  from-again : {x : Source} → Again e x → Reloads (step (collect out) w) e x
+  from-again {x} y =
+      let same-course : course (w .state) e (w .tally) ≡ w = ap (λ (H : History). record { state = w .state; history = H; tally = w .tally }) (sym q) in
+      subst (λ (v : Course). Reloads (step (collect out) v) e x) same-course (reloads-held here out (wrote .0) y)
+
+  pub reloads : length (e .parts) ≡ 1 → Reloads (step (collect out) w) e (fromFile (take m after))
+  reloads one = rw (wrote .1) (from-again (again-file here one))
+
+  pub relaid : Reloads (step (collect out) w) e (fromStrip (stripOf (e .width) (e .parts)) (e .last))
+  relaid = from-again (again-strip here)

@@ -1,4 +1,4 @@
--- All that a load takes from its source is a verdict, a size and pixels.
+-- All that a load takes from its source is a verdict, a size, parts and pixels.
 --     SameSource                    two sources that have these in common
 --     same-answer, same-course      a load from either gives the same answer, and the same record, areas, history and tally
 -- Assumes nothing.
@@ -7,7 +7,7 @@ use Rattle.history.specs.Call.{load, answerOf, stateOf}
 use Rattle.history.specs.History.{History, empty, holds, Lengths, entered, refusedBy, accepted, afterAs, after}
 use Rattle.history.specs.Lists.{Course, lengthsOf, tallied, tallyAs, step}
 use Rattle.history.specs.Load.{loadVerdict, loadedJob, loadAs, loadState}
-use Rattle.history.specs.Source.{Source, sourceVerdict, sourceWidth, sourceHeight, sourcePixels}
+use Rattle.history.specs.Source.{Source, sourceVerdict, sourceWidth, sourceHeight, sourceParts, sourcePixels}
 use Rattle.history.specs.State.{State}
 use Rattle.table.specs.declared.Table.{Table}
 use Rattle.verdict.specs.declared.Verdict.{Verdict}
@@ -17,6 +17,7 @@ pub record SameSource (x y : Source) : Type 0 where
   pub verdict : sourceVerdict x ≡ sourceVerdict y
   pub width : sourceWidth x ≡ sourceWidth y
   pub height : sourceHeight x ≡ sourceHeight y
+  pub parts : sourceParts x ≡ sourceParts y
   pub pixels : sourcePixels x ≡ sourcePixels y
 
 module _ {x y : Source} (same : SameSource x y) (t : Table) where
@@ -33,7 +34,7 @@ module _ {x y : Source} (same : SameSource x y) (t : Table) where
   same-state s = rw (same-verdict s) (by (loadVerdict t y s))
     where
       by : (v : Verdict) → loadAs v t x s ≡ loadAs v t y s
-      by Accepted = rw (same .width, same .height, same .pixels)
+      by Accepted = rw (same .width, same .height, same .parts, same .pixels)
       by (Refused r) = refl
 
   same-refusal : (n : Lengths) (H : History) → refusedBy (load t x) n H ≡ refusedBy (load t y) n H
@@ -46,7 +47,7 @@ module _ {x y : Source} (same : SameSource x y) (t : Table) where
   same-history n H = rw (same-refusal n H) (by (refusedBy (load t y) n H))
     where
       by : (v : Verdict) → afterAs v (load t x) H ≡ afterAs v (load t y) H
-      by Accepted = rw (same .width, same .height, same .pixels)
+      by Accepted = rw (same .width, same .height, same .parts, same .pixels)
       by (Refused r) = refl
 
   pub same-course : (w : Course) → step (load t x) w ≡ step (load t y) w

@@ -12,8 +12,9 @@ use Rattle.history.specs.History.{Entry}
 use Rattle.history.specs.Sound.{Ready}
 use Rattle.history.specs.State.{State, emptyJob, nonzero, unsound, readyVerdict}
 use Rattle.history.proofs.Images.{none-above}
+use Rattle.history.proofs.Parts.{good-parts}
 use Rattle.history.proofs.Ready.{ready-sound, ready-accepted}
-use Rattle.history.proofs.Related.{stageOf, Held}
+use Rattle.history.proofs.Related.{stageOf, jobOf, Held}
 use Rattle.history.proofs.Row.{row-image, row-bound, row-changes}
 use Rattle.verdict.specs.declared.Verdict.the-variants.{Accepted, Refused}
 use Rattle.verdict.specs.Rules.{refusal}
@@ -44,7 +45,7 @@ module _ {s : State} {e : Entry} {n : ℕ} (r : Held s e n) where
   held-ready = record {
     begun = rw (r .job) (stage-low (e .settled));
     staged = rw (r .job) (stage-high (e .settled));
-    sized = rw (r .job) (r .sized);
+    parts = rw (r .job) (good-parts (jobOf e) (r .parts));
     table = rw (r .job) (r .accepted);
     first = rw (r .job) (r .first-long);
     second = rw (r .job) (r .second-long);

@@ -2,26 +2,27 @@
 --     rested-last        a settled entry's last image is the rested one
 --     Shared e e'        one operator takes the first images to the last ones, and keeps exchange and order
 --     shared             two such jobs have one
---     exchanged, ordered, located, rests     the claims
+--     exchanged, ordered, located, alone, rests     the claims
 -- Assumes nothing.
 use mathlib.Core.Bool.{true}
 use mathlib.Core.List.{List, []}
 use mathlib.Core.Logic.{_⊎_, inl, inr}
 use mathlib.Core.Path.{_≡_, sym, ap, _∙_, subst₂}
-use Prim.Native.Nat.{ℕ, _*_, _<_}
-use lib.ListN.{length}
+use Prim.Native.Nat.{ℕ, _+_, _*_, _<_}
+use native.Mathlib.Omega.{arith}
+use lib.ListN.{length, getD}
 use Rattle.operator.specs.Heijmans.{modified}
 use Rattle.operator.specs.Image.{pixel, IsImage, added, removed, exchange, Below}
-use Rattle.operator.specs.Locality.{reach, Alike}
+use Rattle.operator.specs.Locality.{reach, Alike, Inner}
 use Rattle.operator.specs.Pass.{passes, Stable}
 use Rattle.operator.specs.Rest.{rested}
 use Rattle.operator.proofs.Exchange.{exchange-passes}
 use Rattle.operator.proofs.Heijmans.{all-heijmans}
-use Rattle.operator.proofs.Locality.{locality}
+use Rattle.operator.proofs.Locality.{locality, part-alone}
 use Rattle.operator.proofs.Order.{order-passes}
 use Rattle.operator.proofs.Rest.{all-rest}
 use Rattle.history.specs.Call.{passed, answerOf}
-use Rattle.history.specs.Demand3.{Twins, Rests}
+use Rattle.history.specs.Demand3.{Twins, Alone, Rests}
 use Rattle.history.specs.History.{Entry}
 use Rattle.history.specs.Lists.{Course, oldest, firstOf, sumSteps}
 use Rattle.history.specs.State.{State}
@@ -31,6 +32,8 @@ use Rattle.history.proofs.Related.{Held}
 use Rattle.history.proofs.Row.{row-stable}
 use Rattle.history.proofs.Run.{run-answer}
 use Rattle.history.proofs.View.{view-held, operated-held}
+use Rattle.image.specs.Parts.{above, partOf}
+use Rattle.seq.specs.Lists.{sumOf}
 
 -- one operator takes both first images to the last ones, and keeps exchange and order
 record Shared (e e' : Entry) : Type 0 where
@@ -89,6 +92,21 @@ module _ {w w' : Course} {e e' : Entry} (two : Twins w w' e e') (r : Held (w .st
       ap (λ img. pixel (e .width) img x y) (view-held r ∙ sym (r .tallied))
       ∙ locality (e .table) (e .width) (e .height) (firstOf e) (firstOf e') (w .tally) x y l m alike
       ∙ ap (λ img. pixel (e .width) img x y) (tallied same ∙ sym (view-held r'))
+
+-- a strip beside its part alone
+module _ {w w' : Course} {e e' : Entry} {i : ℕ} (two : Alone w w' e e' i) (r : Held (w .state) e (w .tally)) (r' : Held (w' .state) e' (w' .tally)) where
+  strip-passed : viewOf (w .state) ≡ passes (e .table) (e .width) (sumOf (e .parts)) (w .tally) (firstOf e)
+  strip-passed = view-held r ∙ sym (r .tallied) ∙ ap (λ h. passes (e .table) (e .width) h (w .tally) (firstOf e)) (sym (agrees r .rows))
+
+  part-passed : passes (e .table) (e .width) (getD (e .parts) i 0) (w .tally) (partOf (e .width) (e .parts) i (firstOf e)) ≡ viewOf (w' .state)
+  part-passed = rw (sym (two .first), sym (two .height), two .table, two .width, two .together) (r' .tallied) ∙ sym (view-held r')
+
+  pub alone : (x y : ℕ) → x < e' .height → y < e .width → Inner (reach * w .tally) (e .parts) i x
+      → pixel (e .width) (viewOf (w .state)) (above (e .parts) i + x) y ≡ pixel (e .width) (viewOf (w' .state)) x y
+  alone x y l m far =
+      ap (λ img. pixel (e .width) img (above (e .parts) i + x) y) strip-passed
+      ∙ part-alone (e .table) (e .width) (e .parts) (firstOf e) (w .tally) i x y (two .part) (omega (arith, two .height)) m far
+      ∙ ap (λ img. pixel (e .width) img x y) part-passed
 
 -- every pass on a stable image is quiet, so there is no step from it
 pub rests : {s : State} {e : Entry} {n : ℕ} → Held s e n → Stable (e .table) (e .width) (e .height) (firstOf e) → Rests (firstOf e) s

@@ -3,17 +3,21 @@
 --     sound-none                       where it does not hold, none does
 --     sound-ready                      a sound record that is not empty is ready
 -- Assumes nothing.
-use mathlib.Core.Bool.{Bool, true, false, cond, not, _||_}
-use mathlib.Core.Logic.{⊎-elim}
+use mathlib.Core.Bool.{Bool, true, false, cond, not, _&&_, _||_}
+use mathlib.Core.Logic.{_⊎_, inl, inr, ⊎-elim}
 use mathlib.Core.Path.{_≡_, refl, sym, _∙_}
 use Prim.Native.Nat.{_+_}
 use native.Mathlib.Omega.{arith}
 use borrow.Author.Tests.{ltb-true, ltb-false, lt-ltb, eqb-true, eqb-false, eq-eqb, ne-eqb, not-true, not-false}
 use lib.Dec.{ltb, eqb}
-use Rattle.history.specs.Sound.{Inconsistent, bad-size, bad-table, first-short, second-short, above-one, many-passes, many-changes, Unsound, stage-above, field-set, held-wrong, Ready}
-use Rattle.history.specs.State.{State, fieldsOf, pixels, image, short, nonzero, inconsistent, unsound}
-use Rattle.history.proofs.Ready.{consistent-ready}
-use Rattle.image.specs.Size.{badSize}
+use lib.ListN.{drop}
+use Rattle.history.specs.declared.Job.{Job}
+use Rattle.history.specs.Sound.{Inconsistent, bad-shape, other-width, other-height, past-parts, other-added, other-removed, bad-table, first-short, second-short, above-one, many-passes, many-changes, Unsound, stage-above, field-set, held-wrong, Ready}
+use Rattle.history.specs.State.{State, fieldsOf, partFields, pixels, image, short, nonzero, pastParts, badParts, inconsistent, unsound}
+use Rattle.history.proofs.Ready.{consistent-ready, ready-parts}
+use Rattle.history.proofs.Parts.{good-past, misshapen, resized, past, miscounted}
+use Rattle.image.proofs.Shapes.{good-shape}
+use Rattle.image.specs.Strip.{shapeVerdict}
 use Rattle.seq.specs.Lists.{any, all}
 use Rattle.seq.proofs.Lists.{clash, either, or-cases, any-intro, any-elim, all-elim, not-all}
 use Rattle.seq.proofs.Tests.{or-none-left, or-none-right}
@@ -27,7 +31,35 @@ not-accepted : (v : Verdict) → not (isAccepted v) ≡ true → v ≡ Accepted 
 not-accepted Accepted e q = clash e refl
 not-accepted (Refused r) e q = refused-accepted refl q
 
+-- one of two does not hold
+not-and : (a b : Bool) → not (a && b) ≡ true → (a ≡ false) ⊎ (b ≡ false)
+not-and true b e = inr (not-true b e)
+not-and false b e = inl refl
+
 module _ (s : State) where
+  abbrev job : Job
+  job = s .job
+
+  -- a place past the parts that is not zero
+  past-words : past job ≡ true → Inconsistent s
+  past-words e =
+      let (xs, m, q) = any-elim (pastParts job) (partFields job) e in
+      let (v, k, z) = any-elim (λ v. not (eqb 0 v)) (drop (job .strip .parts) xs) (sym (not-all (eqb 0) (drop (job .strip .parts) xs)) ∙ q) in
+      past-parts xs m v k (λ x. eqb-false 0 v (not-true _ z) (sym x))
+
+  parts-words : badParts job ≡ true → Inconsistent s
+  unfolding badParts
+  parts-words e =
+      ⊎-elim (λ x. bad-shape (not-accepted (shapeVerdict (job .strip)) x))
+      (λ x. ⊎-elim size (λ y. ⊎-elim past-words count (or-cases (past job) (miscounted job) y)) (or-cases (resized job) (past job || miscounted job) x))
+      (or-cases (misshapen job) (resized job || (past job || miscounted job)) e)
+    where
+      size : resized job ≡ true → Inconsistent s
+      size x = ⊎-elim (λ y. other-width (eqb-false _ _ y)) (λ y. other-height (eqb-false _ _ y)) (not-and _ _ x)
+
+      count : miscounted job ≡ true → Inconsistent s
+      count x = ⊎-elim (λ y. other-added (eqb-false _ _ y)) (λ y. other-removed (eqb-false _ _ y)) (not-and _ _ x)
+
   -- the conditions in their order, as `inconsistent` joins them
   abbrev late : Bool
   late = ltb (pixels (s .job)) (s .job .passes) || ltb (pixels (s .job)) (s .job .added + s .job .removed)
@@ -43,7 +75,7 @@ module _ (s : State) where
 
   inconsistent-words : inconsistent s ≡ true → Inconsistent s
   unfolding inconsistent
-  inconsistent-words e = ⊎-elim bad-size table (or-cases (badSize (s .job .width) (s .job .height)) behind e)
+  inconsistent-words e = ⊎-elim parts-words table (or-cases (badParts (s .job)) behind e)
     where
       count : late ≡ true → Inconsistent s
       count q =
@@ -83,7 +115,12 @@ module _ (s : State) where
 
 -- none of 14's conditions holds of a record that is ready
 ready-none : {s : State} → Ready s → Inconsistent s → ⊥
-ready-none r (bad-size e) = clash e (r .sized)
+ready-none {s} r (bad-shape n) = n (good-shape (s .job .strip) (ready-parts r .shape))
+ready-none r (other-width n) = n (ready-parts r .width)
+ready-none r (other-height n) = n (ready-parts r .height)
+ready-none {s} r (past-parts xs m v k n) = n (sym (eqb-true 0 v (all-elim (eqb 0) (good-past (ready-parts r) m) k)))
+ready-none r (other-added n) = n (sym (ready-parts r .added .sum))
+ready-none r (other-removed n) = n (sym (ready-parts r .removed .sum))
 ready-none r (bad-table n) = n (r .table)
 ready-none r (first-short l) = omega (arith, r .first)
 ready-none r (second-short l) = omega (arith, r .second)

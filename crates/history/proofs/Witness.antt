@@ -10,12 +10,13 @@ use lib.ListN.{length}
 use Rattle.history.specs.Call.{Call, load, pass, run, view, figures, collect, isLoad, isCollect, answerOf, refusalOf}
 use Rattle.history.specs.Collect.{collected, collectVerdict, collectWritten}
 use Rattle.history.specs.Demand1.{stateNumbers}
-use Rattle.history.specs.Source.{Source, fromFile, fromThree, sourceVerdict}
+use Rattle.history.specs.Source.{Source, fromFile, fromThree, fromStrip, sourceVerdict}
 use Rattle.history.specs.State.{State, unsound}
 use Rattle.history.specs.Witness.{PassedOn}
 use Rattle.history.proofs.Refusals.{written-refusal, load-says}
 use Rattle.history.proofs.States.{given, only, by-state}
 use Rattle.image.proofs.Facts.{file-says}
+use Rattle.image.proofs.Strips.{strip-says}
 use Rattle.image.proofs.ThreeFiles.{three-says}
 use Rattle.table.proofs.Witness.{witnesses}
 use Rattle.table.specs.declared.Table.{Table}
@@ -29,6 +30,7 @@ use Rattle.verdict.proofs.Numbers.{says-if, says-or, says-more, one-of-passes}
 
 source-says : (x : Source) → Says Neither (sourceVerdict x)
 source-says (fromFile f) = file-says f (zeros refl) (zeros refl) (zeros refl)
+source-says (fromStrip p px) = strip-says p px (λ k. zeros refl) (zeros refl) (λ k. zeros refl) (λ k. zeros refl)
 source-says (fromThree f g h) = three-says f g h (zeros refl) (zeros refl) (zeros refl) (zeros refl) (zeros refl)
 
 load-witness : (t : Table) (x : Source) (s : State) → Says (Witness t) (refusalOf (answerOf (load t x) s))

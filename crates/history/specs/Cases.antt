@@ -1,5 +1,5 @@
--- Lists of calls whose every step is computed, with what 01 says of it; and covers, empty records, bad tables and three files, with what 02 (T-05,
--- T-01, T-07, T-12) says of them.
+-- Lists of calls whose every step is computed, with what 01 says of it; and covers, empty records, bad tables, three files and strips, with what 02
+-- (T-05, T-01, T-07, T-12, T-08) says of them.
 --     row c w       after the call c: refusal number, stage, passes, added, removed, black in view, cover, history (0 empty, 1 held, 2 settled)
 --     trace cs w    the rows of a list of calls
 --     dotFile       a 5 × 5 image, black only in the middle; blankFile: a white one; lowFile: a 5 × 4 one; wideFile, badFile: refused by 10, by 9
@@ -11,6 +11,15 @@
 --     heldWith t    a record of a blank 5 × 5 image, with a table
 --     badThrees     three files, with the refusal of each load on empty areas; threes-met: computed; parts r: what a refusal consists of
 --     three-cases-met   one theorem, computed: loads of three files in a list
+--     given n ws hs     a strip of n parts; white, seam: 5 × 5 pixels, all white, and black only at (2, 2)
+--     badStrips         strips, with the refusal of each load on empty areas; strips-met: computed
+--     seamStrip         parts of 5 × 3 and 5 × 2, black only beside the seam; strip-cases-met: one theorem, computed: its load in a list
+--     seamRan           that strip at rest; part-counts-met: computed, its parts' counts
+--     seamFiles         the files of its parts; part-files-met: computed, collect writes them and leaves the output behind them
+--     aloneFile         the file of the first part; alone-met: computed, alone it keeps the black pixel
+--     counted g l       the counts of parts; partJob w h p c: a record of 3 added and 4 removed, with its parts
+--     soundStrip, soundCounts   of a sound record; badPartJobs: records that differ from it in one thing of the parts
+--     parts-unsound-met     computed: each of these is unsound, and the sound one is not
 --     badTables     with the refusal of each; loads-met: computed, a load passes it on; held-met: computed, held in a record the table is 14 with zeros
 -- Assumes nothing.
 use mathlib.Core.Bool.{true, false, cond}
@@ -22,12 +31,17 @@ use Rattle.operator.specs.Image.{black}
 use Rattle.operator.specs.Samples.{ring}
 use Rattle.history.specs.Answers.{figuredCover}
 use Rattle.history.specs.Call.{Call, load, pass, run, collect, answerOf, refusalOf}
+use Rattle.history.specs.Collect.{collectOutput}
 use Rattle.history.specs.Computing.{computing}
+use Rattle.history.specs.declared.Job.{Job}
 use Rattle.history.specs.History.{History, empty, holds}
 use Rattle.history.specs.Lists.{Course, start, step}
-use Rattle.history.specs.Source.{Source, fromFile, fromThree}
+use Rattle.history.specs.Source.{Source, fromFile, fromThree, fromStrip}
 use Rattle.history.specs.State.{State, unsound}
 use Rattle.history.specs.View.{viewOf, cover, figuresOf}
+use Rattle.image.specs.declared.strip.PartCounts.{PartCounts}
+use Rattle.image.specs.declared.strip.Strip.{Strip}
+use Rattle.image.specs.Strip.{padded, stripOf, noParts, noCounts}
 use Rattle.seq.specs.Lists.{all, sameList}
 use Rattle.table.specs.declared.Table.{Table}
 use Rattle.table.specs.Record.{zeroTable}
@@ -125,7 +139,12 @@ unfolding computing
 covers-met = refl
 
 abbrev pub emptyWith : Table → State
-emptyWith t = record { job = record { stage = 0; width = 0; height = 0; passes = 0; added = 0; removed = 0; table = t }; first = []; second = [] }
+emptyWith t =
+    record {
+      job = record { stage = 0; width = 0; height = 0; passes = 0; added = 0; removed = 0; table = t; strip = noParts; counts = noCounts };
+      first = [];
+      second = [];
+    }
 
 abbrev pub tables : List Table
 tables =
@@ -145,7 +164,7 @@ unsound-met = refl
 abbrev pub heldWith : Table → State
 heldWith t =
     record {
-      job = record { stage = 1; width = 5; height = 5; passes = 0; added = 0; removed = 0; table = t };
+      job = record { stage = 1; width = 5; height = 5; passes = 0; added = 0; removed = 0; table = t; strip = stripOf 5 (5 ∷ []); counts = noCounts };
       first = replicate 25 0;
       second = replicate 25 0;
     }
@@ -219,3 +238,123 @@ threeExpected =
 pub three-cases-met : sameList (trace threeCalls (start (replicate 25 7) (replicate 25 7))) threeExpected ≡ true
 unfolding computing
 three-cases-met = refl
+
+abbrev pub given : ℕ → List ℕ → List ℕ → Strip
+given n ws hs = record { parts = n; widths = padded ws; heights = padded hs }
+
+abbrev pub white : List ℕ
+white = replicate 25 0
+
+abbrev pub seam : List ℕ
+seam = replicate 12 0 ++ 1 ∷ replicate 12 0
+
+-- the last two are good; the last has rubbish past its number
+abbrev pub badStrips : List (Source × Refusal)
+badStrips =
+    (fromStrip (given 0 (5 ∷ []) (5 ∷ [])) white, refusal 23 0)
+    ∷ (fromStrip (given 17 (replicate 16 5) (replicate 16 1)) white, refusal 23 0)
+    ∷ (fromStrip (given 3 (5 ∷ 0 ∷ 5 ∷ []) (1 ∷ 2 ∷ 300 ∷ [])) white, refusal 10 2)
+    ∷ (fromStrip (given 3 (5 ∷ 4 ∷ 5 ∷ []) (1 ∷ 2 ∷ 257 ∷ [])) white, refusal 10 3)
+    ∷ (fromStrip (given 1 (257 ∷ []) (1 ∷ [])) white, refusal 10 1)
+    ∷ (fromStrip (given 3 (5 ∷ 4 ∷ 6 ∷ []) (1 ∷ 2 ∷ 2 ∷ [])) white, refusal 23 2)
+    ∷ (fromStrip (given 2 (5 ∷ 5 ∷ []) (3 ∷ 2 ∷ [])) (replicate 24 0), refusal 11 0)
+    ∷ (fromStrip (given 2 (5 ∷ 5 ∷ []) (3 ∷ 2 ∷ [])) (replicate 20 0 ++ 2 ∷ replicate 4 0), refusal 12 4)
+    ∷ (fromStrip (given 2 (5 ∷ 5 ∷ []) (3 ∷ 2 ∷ [])) white, refusal 13 0)
+    ∷ (fromStrip (given 2 (5 ∷ 5 ∷ 0 ∷ 900 ∷ []) (3 ∷ 2 ∷ 300 ∷ [])) white, refusal 13 0)
+    ∷ []
+
+pub strips-met : all (λ c. sameList (parts (said (refusalOf (answerOf (load ring (c .0)) (emptyWith zeroTable))))) (parts (c .1))) badStrips ≡ true
+unfolding computing
+strips-met = refl
+
+abbrev pub seamStrip : Source
+seamStrip = fromStrip (given 2 (5 ∷ 5 ∷ []) (3 ∷ 2 ∷ [])) seam
+
+abbrev stripCalls : List Call
+stripCalls =
+    load ring seamStrip
+    ∷ load ring seamStrip
+    ∷ run
+    ∷ collect (replicate 18 0)
+    ∷ collect (replicate 19 0)
+    ∷ []
+
+abbrev stripExpected : List ℕ
+stripExpected =
+    (0 ∷ 1 ∷ 0 ∷ 0 ∷ 0 ∷ 1 ∷ 40 ∷ 1 ∷ [])
+    ++ (15 ∷ 1 ∷ 0 ∷ 0 ∷ 0 ∷ 1 ∷ 40 ∷ 1 ∷ [])
+    ++ (0 ∷ 2 ∷ 1 ∷ 0 ∷ 1 ∷ 0 ∷ 0 ∷ 2 ∷ [])
+    ++ (13 ∷ 2 ∷ 1 ∷ 0 ∷ 1 ∷ 0 ∷ 0 ∷ 2 ∷ [])
+    ++ (0 ∷ 0 ∷ 0 ∷ 0 ∷ 0 ∷ 0 ∷ 0 ∷ 0 ∷ [])
+
+pub strip-cases-met : sameList (trace stripCalls (start (replicate 25 7) (replicate 25 7))) stripExpected ≡ true
+unfolding computing
+strip-cases-met = refl
+
+abbrev pub seamRan : State
+seamRan = step run (step (load ring seamStrip) (start (replicate 25 7) (replicate 25 7))) .state
+
+pub part-counts-met : sameList (seamRan .job .counts .added ++ seamRan .job .counts .removed) (replicate 16 0 ++ 1 ∷ replicate 15 0) ≡ true
+unfolding computing
+part-counts-met = refl
+
+abbrev pub seamFiles : List ℕ
+seamFiles =
+    (0x50 ∷ 0x34 ∷ 0x0A ∷ 0x35 ∷ 0x20 ∷ 0x33 ∷ 0x0A ∷ 0x00 ∷ 0x00 ∷ 0x00 ∷ [])
+    ++ (0x50 ∷ 0x34 ∷ 0x0A ∷ 0x35 ∷ 0x20 ∷ 0x32 ∷ 0x0A ∷ 0x00 ∷ 0x00 ∷ [])
+
+pub part-files-met : sameList (collectOutput (replicate 21 7) seamRan) (seamFiles ++ 7 ∷ 7 ∷ []) ≡ true
+unfolding computing
+part-files-met = refl
+
+-- the file of the first part: at its lower edge the pixel stays
+abbrev pub aloneFile : List ℕ
+aloneFile = 0x50 ∷ 0x34 ∷ 0x0A ∷ 0x35 ∷ 0x20 ∷ 0x33 ∷ 0x0A ∷ 0x00 ∷ 0x00 ∷ 0x20 ∷ []
+
+abbrev aloneCalls : List Call
+aloneCalls = load ring (fromFile aloneFile) ∷ run ∷ []
+
+abbrev aloneExpected : List ℕ
+aloneExpected = (0 ∷ 1 ∷ 0 ∷ 0 ∷ 0 ∷ 1 ∷ 67 ∷ 1 ∷ []) ++ (0 ∷ 2 ∷ 0 ∷ 0 ∷ 0 ∷ 1 ∷ 67 ∷ 2 ∷ [])
+
+pub alone-met : sameList (trace aloneCalls (start (replicate 15 7) (replicate 15 7))) aloneExpected ≡ true
+unfolding computing
+alone-met = refl
+
+abbrev pub partJob : ℕ → ℕ → Strip → PartCounts → Job
+partJob w h p c =
+    record { stage = 1; width = w; height = h; passes = 2; added = 3; removed = 4; table = ring; strip = p; counts = c }
+
+abbrev pub counted : List ℕ → List ℕ → PartCounts
+counted g l = record { added = padded g; removed = padded l }
+
+abbrev pub soundStrip : Strip
+soundStrip = given 2 (5 ∷ 5 ∷ []) (3 ∷ 2 ∷ [])
+
+abbrev pub soundCounts : PartCounts
+soundCounts = counted (1 ∷ 2 ∷ []) (4 ∷ [])
+
+-- the number of parts; a part's size; the record's; a place past the parts; the sums
+abbrev pub badPartJobs : List Job
+badPartJobs =
+    partJob 5 5 (given 0 (5 ∷ 5 ∷ []) (3 ∷ 2 ∷ [])) soundCounts
+    ∷ partJob 5 5 (given 1 (5 ∷ 5 ∷ []) (3 ∷ 2 ∷ [])) soundCounts
+    ∷ partJob 5 5 (given 3 (5 ∷ 5 ∷ []) (3 ∷ 2 ∷ [])) soundCounts
+    ∷ partJob 5 5 (given 2 (5 ∷ 4 ∷ []) (3 ∷ 2 ∷ [])) soundCounts
+    ∷ partJob 5 5 (given 2 (5 ∷ 5 ∷ []) (3 ∷ 1 ∷ [])) soundCounts
+    ∷ partJob 5 5 (given 2 (5 ∷ 5 ∷ []) (5 ∷ 0 ∷ [])) soundCounts
+    ∷ partJob 4 5 soundStrip soundCounts
+    ∷ partJob 5 4 soundStrip soundCounts
+    ∷ partJob 5 5 (given 2 (5 ∷ 5 ∷ 1 ∷ []) (3 ∷ 2 ∷ [])) soundCounts
+    ∷ partJob 5 5 (given 2 (5 ∷ 5 ∷ []) (3 ∷ 2 ∷ 1 ∷ [])) soundCounts
+    ∷ partJob 5 5 soundStrip (counted (1 ∷ 1 ∷ 1 ∷ []) (4 ∷ []))
+    ∷ partJob 5 5 soundStrip (counted (1 ∷ 2 ∷ []) (3 ∷ 0 ∷ 1 ∷ []))
+    ∷ partJob 5 5 soundStrip (counted (1 ∷ 1 ∷ []) (4 ∷ []))
+    ∷ partJob 5 5 soundStrip (counted (1 ∷ 2 ∷ []) (4 ∷ 1 ∷ []))
+    ∷ []
+
+pub parts-unsound-met :
+    map (λ j. unsound (record { job = j; first = white; second = white })) (partJob 5 5 soundStrip soundCounts ∷ badPartJobs)
+    ≡ false ∷ map (λ j. true) badPartJobs
+unfolding computing
+parts-unsound-met = refl

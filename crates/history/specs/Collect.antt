@@ -1,5 +1,5 @@
--- Collect (01): 14, 16, 17, 13; then the file in the output and a zero record; the areas stay.
---     collected s            the file of the present image
+-- Collect (01): 14, 16, 17, 13; then the file in the output and a zero record; the areas stay. A strip has a file for each part (02, T-08).
+--     collected s            the files of the present image's parts, one after another
 --     collectVerdict n s     on an output of n bytes
 --     collectWritten n s, collectOutput out s, collectState n s     answer, output, record and areas afterwards
 --     collectAs v s          record and areas by the verdict
@@ -9,7 +9,7 @@ use Prim.Native.Nat.{ℕ}
 use lib.Dec.{ltb, eqb}
 use lib.ListN.{length}
 use Rattle.history.specs.State.{State, emptyJob, image, soundRule, loadedRule}
-use Rattle.image.specs.File.{imageBytes}
+use Rattle.image.specs.Strip.{heightsOf, stripBytes}
 use Rattle.verdict.specs.declared.Verdict.{Verdict}
 use Rattle.verdict.specs.declared.Verdict.the-variants.{Accepted, Refused}
 use Rattle.verdict.specs.declared.Written.{Written}
@@ -17,7 +17,7 @@ use Rattle.verdict.specs.Rules.{refuseIf, judge}
 use Rattle.verdict.specs.Writer.{writtenOf, outputOf}
 
 unfoldable pub collected : State → List ℕ
-collected s = imageBytes (s .job .width) (s .job .height) (image s)
+collected s = stripBytes (s .job .width) (heightsOf (s .job .strip)) (image s)
 
 unfoldable pub collectVerdict : ℕ → State → Verdict
 collectVerdict n s =

@@ -20,6 +20,9 @@ unfolding Rattle.seq.specs.Bits.bit Rattle.seq.specs.Bits.bitsOf Rattle.seq.s
     Rattle.image.specs.Header.headerForm Rattle.image.specs.Header.widthOf Rattle.image.specs.Header.heightOf Rattle.image.specs.Header.decimal
     Rattle.image.specs.Header.header Rattle.image.specs.File.imageOf Rattle.image.specs.Size.within Rattle.image.specs.Size.badSize
     Rattle.image.specs.Size.rowBytes Rattle.image.specs.Majority.majorityOf Rattle.image.specs.Majority.threeVerdict
+    Rattle.image.specs.File.bytesVerdict Rattle.image.specs.Parts.rowsOf Rattle.image.specs.Strip.shapeVerdict
+    Rattle.image.specs.Strip.stripVerdict Rattle.image.specs.Strip.stripReadVerdict Rattle.image.specs.Strip.stripRead Rattle.image.specs.Strip.stripArea
+    Rattle.image.specs.Strip.stripOf Rattle.operator.specs.Parts.partCounts Rattle.operator.specs.Parts.summed
     Rattle.image.specs.Majority.majorityVerdict Rattle.image.specs.Majority.majorityRead Rattle.image.specs.Majority.majorityArea
     Rattle.operator.specs.Image.black Rattle.operator.specs.Image.added Rattle.operator.specs.Image.removed
     Rattle.operator.specs.Image.differs Rattle.operator.specs.Image.exchange Rattle.operator.specs.Pass.inside Rattle.operator.specs.Pass.solid
@@ -33,6 +36,7 @@ unfolding Rattle.seq.specs.Bits.bit Rattle.seq.specs.Bits.bitsOf Rattle.seq.s
     Rattle.history.specs.Lists.lengthsOf Rattle.history.specs.Lists.tallied Rattle.history.specs.Lists.step
     Rattle.history.specs.Load.loadVerdict Rattle.history.specs.Load.loadedJob Rattle.history.specs.Load.loadState
     Rattle.history.specs.Pass.nextImage Rattle.history.specs.Pass.nowAdded Rattle.history.specs.Pass.nowRemoved
+    Rattle.history.specs.Pass.nowCounts Rattle.history.specs.History.filesOf Rattle.history.specs.State.badParts
     Rattle.history.specs.Pass.exceeds Rattle.history.specs.Pass.withNext Rattle.history.specs.Pass.changedJob
     Rattle.history.specs.Pass.stableJob Rattle.history.specs.Pass.changing Rattle.history.specs.Pass.passLoaded
     Rattle.history.specs.Pass.passReady Rattle.history.specs.Pass.passOf Rattle.history.specs.Run.runFor

@@ -5,31 +5,34 @@
 --     AfterList n w       what holds after any list, on areas of the lengths n
 --     Twins w w' e e'     two jobs with one table, one size and equally many accepted passes, or both settled
 --     Rests img s         a stable image that was loaded stays
---     Reloads w e f       so does the last image of an entry, loaded again from its file
+--     Reloads w e x       so does the last image of an entry, loaded again from the source x
+--     Alone w w' e e' i   a job on a strip, and one that loaded its part i alone, with one table and equally many accepted passes
 --     played cs a b       what a list of calls leaves
 --     lent a b            the lengths of the areas at its start
 --     Demand3             the claim
 -- Assumes nothing.
-use mathlib.Core.Bool.{true, false}
+use mathlib.Core.Bool.{true}
 use mathlib.Core.List.{List}
 use mathlib.Core.Logic.{_↔_, _⊎_, _≢_}
 use mathlib.Core.Path.{_≡_}
 use Prim.Native.Nat.{ℕ, _+_, _*_, _≤_, _<_}
-use lib.ListN.{length, replicate, take}
+use lib.ListN.{length, getD, replicate, take}
 use Rattle.operator.specs.Heijmans.{modified}
 use Rattle.operator.specs.Image.{pixel, IsImage, black, added, removed, differsAt, exchange, Below}
-use Rattle.operator.specs.Locality.{reach, Alike}
+use Rattle.operator.specs.Locality.{reach, Alike, Inner}
+use Rattle.operator.specs.Parts.{addedIn, removedIn}
 use Rattle.operator.specs.Pass as operator
 use Rattle.history.specs.declared.Passed.the-variants.{Changed, Stable}
 use Rattle.history.specs.Answered.{answeredBy}
 use Rattle.history.specs.Call.{Call, load, pass, run, collect, passed, collected, answerOf, stateOf, refusalOf}
 use Rattle.history.specs.History.{Entry, empty, holds, Lengths, refusedBy}
 use Rattle.history.specs.Lists.{Course, start, lengthsOf, step, play, uncollected, firstOf, overSteps}
-use Rattle.history.specs.Source.{fromFile}
+use Rattle.history.specs.Source.{Source, fromFile, fromStrip}
 use Rattle.history.specs.State.{State}
 use Rattle.history.specs.View.{viewOf}
-use Rattle.image.specs.Size.{badSize}
-use Rattle.seq.specs.Lists.{one}
+use Rattle.image.specs.Parts.{above, partOf}
+use Rattle.image.specs.Strip.{stripOf, shapeVerdict, PartsBack}
+use Rattle.seq.specs.Lists.{one, sumOf}
 use Rattle.table.specs.declared.Table.{Table}
 use Rattle.table.specs.Record.{recordVerdict}
 use Rattle.verdict.specs.declared.Refusal.{Refusal}
@@ -40,9 +43,12 @@ pub record Agrees (s : State) (e : Entry) : Type 0 where
   pub table : s .job .table ≡ e .table
   pub width : s .job .width ≡ e .width
   pub height : s .job .height ≡ e .height
-  -- the table was accepted, the size is within the limits, and every pixel of the last image is 0 or 1
+  -- the record's parts are the load's; their heights sum to the image's (02, T-08)
+  pub strip : s .job .strip ≡ stripOf (e .width) (e .parts)
+  pub rows : sumOf (e .parts) ≡ e .height
+  -- the table was accepted, the size of each part is within the limits, and every pixel of the last image is 0 or 1
   pub accepted : recordVerdict (e .table) ≡ Accepted
-  pub sized : badSize (e .width) (e .height) ≡ false
+  pub sized : shapeVerdict (stripOf (e .width) (e .parts)) ≡ Accepted
   pub image : IsImage (e .width) (e .height) (e .last)
   -- view gives the last image's pixels
   pub view : viewOf s ≡ e .last
@@ -51,6 +57,13 @@ pub record Agrees (s : State) (e : Entry) : Type 0 where
   -- added counts the pixels that go from 0 to 1, over all steps, removed those from 1 to 0
   pub added : s .job .added ≡ overSteps added e
   pub removed : s .job .removed ≡ overSteps removed e
+  -- so do the counts of each part, over its rows; they sum to those of the strip
+  pub part-added : (i : ℕ) → i < length (e .parts) → getD (s .job .counts .added) i 0 ≡ overSteps (λ a b. addedIn (e .width) (e .parts) a b i) e
+  pub part-removed : (i : ℕ) → i < length (e .parts) → getD (s .job .counts .removed) i 0 ≡ overSteps (λ a b. removedIn (e .width) (e .parts) a b i) e
+  pub added-sum : sumOf (s .job .counts .added) ≡ s .job .added
+  pub removed-sum : sumOf (s .job .counts .removed) ≡ s .job .removed
+  -- the files that collect writes read back as the parts
+  pub files : PartsBack (e .width) (e .parts) (e .last)
   -- black in the last image is black in the first plus added less removed
   pub balance : black (e .last) + s .job .removed ≡ black (firstOf e) + s .job .added
   -- a pixel changes in at most one step
@@ -107,11 +120,22 @@ pub record Rests (img : List ℕ) (s : State) : Type 0 where
   pub pass-answer : answerOf pass s ≡ passed Stable
   pub run-answer : answerOf run s ≡ passed Stable
 
--- a file loaded with the entry's table: accepted, and what it loads is the entry's last image, which stays until a collect is accepted
-pub record Reloads (w : Course) (e : Entry) (f : List ℕ) : Type 0 where
-  pub accepted : refusalOf (answerOf (load (e .table) (fromFile f)) (w .state)) ≡ Accepted
-  pub rests : (cs : List Call) → uncollected cs (step (load (e .table) (fromFile f)) w) ≡ true
-      → Rests (e .last) (play cs (step (load (e .table) (fromFile f)) w) .state)
+-- a source loaded with the entry's table: accepted, and what it loads is the entry's last image, which stays until a collect is accepted
+pub record Reloads (w : Course) (e : Entry) (x : Source) : Type 0 where
+  pub accepted : refusalOf (answerOf (load (e .table) x) (w .state)) ≡ Accepted
+  pub rests : (cs : List Call) → uncollected cs (step (load (e .table) x) w) ≡ true
+      → Rests (e .last) (play cs (step (load (e .table) x) w) .state)
+
+-- 02, T-08 with T-09: the entry e' holds part i of the strip that e holds, from the load on
+pub record Alone (w w' : Course) (e e' : Entry) (i : ℕ) : Type 0 where
+  pub here : w .history ≡ holds e
+  pub there : w' .history ≡ holds e'
+  pub table : e .table ≡ e' .table
+  pub width : e .width ≡ e' .width
+  pub part : i < length (e .parts)
+  pub height : e' .height ≡ getD (e .parts) i 0
+  pub first : firstOf e' ≡ partOf (e .width) (e .parts) i (firstOf e)
+  pub together : w .tally ≡ w' .tally
 
 -- what a list of calls leaves, from an empty job with the areas a and b
 abbrev pub played : List Call → List ℕ → List ℕ → Course
@@ -136,6 +160,15 @@ pub record Demand3 : Type 0 where
   -- a stable image that was loaded
   pub rests : (cs : List Call) (a b : List ℕ) (e : Entry) → played cs a b .history ≡ holds e
       → operator.Stable (e .table) (e .width) (e .height) (firstOf e) → Rests (firstOf e) (played cs a b .state)
-  -- what an accepted collect wrote, loaded again with its table
-  pub reloaded : (cs : List Call) (a b out : List ℕ) (e : Entry) (m : ℕ) (after : List ℕ) → played cs a b .history ≡ holds e
-      → answerOf (collect out) (played cs a b .state) ≡ collected (written.Length m) after → Reloads (step (collect out) (played cs a b)) e (take m after)
+  -- what an accepted collect wrote of a single image, loaded again with its table
+  pub reloaded : (cs : List Call) (a b out : List ℕ) (e : Entry) (m : ℕ) (after : List ℕ) → played cs a b .history ≡ holds e → length (e .parts) ≡ 1
+      → answerOf (collect out) (played cs a b .state) ≡ collected (written.Length m) after
+      → Reloads (step (collect out) (played cs a b)) e (fromFile (take m after))
+  -- after an accepted collect, the strip of the parts that its files hold
+  pub relaid : (cs : List Call) (a b out : List ℕ) (e : Entry) (m : ℕ) (after : List ℕ) → played cs a b .history ≡ holds e
+      → answerOf (collect out) (played cs a b .state) ≡ collected (written.Length m) after
+      → Reloads (step (collect out) (played cs a b)) e (fromStrip (stripOf (e .width) (e .parts)) (e .last))
+  -- a strip beside its part i alone, after equally many accepted passes: far enough from the seams view gives one pixel
+  pub alone : (cs cs' : List Call) (a b a' b' : List ℕ) (e e' : Entry) (i : ℕ) → Alone (played cs a b) (played cs' a' b') e e' i
+      → (r c : ℕ) → r < e' .height → c < e .width → Inner (reach * played cs a b .tally) (e .parts) i r
+      → pixel (e .width) (viewOf (played cs a b .state)) (above (e .parts) i + r) c ≡ pixel (e .width) (viewOf (played cs' a' b' .state)) r c

@@ -1,12 +1,13 @@
 -- The reference model beside a list of calls (01: the book). It sees the calls' arguments and the areas' lengths, never the record
 -- or the areas' bytes.
---     Entry            a table, a row of images and perhaps a mark (settled)
+--     Entry            a table, a row of images, the heights of their parts and perhaps a mark (settled)
 --     History          empty, or an entry
 --     Lengths          the lengths of the two areas
 --     entered t f      a load enters its table and its image, no mark
 --     nextOf e         the last image through one pass; joined e: it joins the row; marked e: the mark is set
 --     passed e         pass: with the mark, nothing; else a result that differs joins the row, one that does not sets the mark
 --     ran e            run: passes until the mark stands; passedFor n e: at most n
+--     filesOf e        the files of the last image's parts, one after another
 --     refusedBy c n H      what is refused follows from 01's lists, the history standing for the record, without 14
 --     after c n H          the history after a call: a refused one leaves it alone; afterAs v c H: by the verdict
 --     accepted c H         the history after an accepted call
@@ -20,8 +21,8 @@ use Rattle.operator.specs.Image.{differs}
 use Rattle.operator.specs.Pass as operator
 use Rattle.history.specs.Call.{Call, load, pass, run, view, figures, collect}
 use Rattle.history.specs.Load.{areasRule}
-use Rattle.history.specs.Source.{Source, sourceVerdict, sourceWidth, sourceHeight, sourcePixels}
-use Rattle.image.specs.File.{imageBytes}
+use Rattle.history.specs.Source.{Source, sourceVerdict, sourceWidth, sourceHeight, sourceParts, sourcePixels}
+use Rattle.image.specs.Strip.{stripBytes}
 use Rattle.table.specs.declared.Table.{Table}
 use Rattle.table.specs.Record.{recordVerdict}
 use Rattle.verdict.specs.declared.Verdict.{Verdict}
@@ -32,6 +33,8 @@ pub record Entry : Type 0 where
   pub table : Table
   pub width : ℕ
   pub height : ℕ
+  -- the heights of the parts: a single image has one (02, T-08)
+  pub parts : List ℕ
   -- the row of images, from the last to the first
   pub last : List ℕ
   pub earlier : List (List ℕ)
@@ -47,7 +50,16 @@ pub record Lengths : Type 0 where
 
 -- a load enters its table and its image, no mark
 unfoldable pub entered : Table → Source → Entry
-entered t x = record { table = t; width = sourceWidth x; height = sourceHeight x; last = sourcePixels x; earlier = []; settled = false }
+entered t x =
+    record {
+      table = t;
+      width = sourceWidth x;
+      height = sourceHeight x;
+      parts = sourceParts x;
+      last = sourcePixels x;
+      earlier = [];
+      settled = false;
+    }
 
 unfoldable pub nextOf : Entry → List ℕ
 nextOf e = operator.pass (e .table) (e .width) (e .height) (e .last)
@@ -58,6 +70,7 @@ joined e =
       table = e .table;
       width = e .width;
       height = e .height;
+      parts = e .parts;
       last = nextOf e;
       earlier = e .last ∷ e .earlier;
       settled = false;
@@ -65,7 +78,15 @@ joined e =
 
 unfoldable pub marked : Entry → Entry
 marked e =
-    record { table = e .table; width = e .width; height = e .height; last = e .last; earlier = e .earlier; settled = true }
+    record {
+      table = e .table;
+      width = e .width;
+      height = e .height;
+      parts = e .parts;
+      last = e .last;
+      earlier = e .earlier;
+      settled = true;
+    }
 
 unfoldable pub passed : Entry → Entry
 passed e = cond (e .settled) e (cond (differs (e .last) (nextOf e)) (joined e) (marked e))
@@ -76,6 +97,9 @@ passedFor (suc n) e = passedFor n (passed e)
 
 unfoldable pub ran : Entry → Entry
 ran e = passedFor (e .width * e .height + 1) e
+
+unfoldable pub filesOf : Entry → List ℕ
+filesOf e = stripBytes (e .width) (e .parts) (e .last)
 
 unfoldable pub refusedBy : Call → Lengths → History → Verdict
 refusedBy (load t x) n empty = judge (recordVerdict t ∷ sourceVerdict x ∷ areasRule x (n .first) (n .second) ∷ [])
@@ -90,7 +114,7 @@ refusedBy figures n empty = Refused (refusal 16 0)
 refusedBy figures n (holds e) = Accepted
 refusedBy (collect out) n empty = Refused (refusal 16 0)
 refusedBy (collect out) n (holds e) =
-    judge (refuseIf (not (e .settled)) 17 0 ∷ refuseIf (ltb (length out) (length (imageBytes (e .width) (e .height) (e .last)))) 13 0 ∷ [])
+    judge (refuseIf (not (e .settled)) 17 0 ∷ refuseIf (ltb (length out) (length (filesOf e))) 13 0 ∷ [])
 
 unfoldable pub accepted : Call → History → History
 accepted (load t x) H = holds (entered t x)

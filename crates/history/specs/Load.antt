@@ -1,4 +1,4 @@
--- Load (01): 14, 15, table, source, 13; then the image in the first area, stage 1, counts 0.
+-- Load (01): 14, 15, table, source, 13; then the image in the first area, stage 1, counts 0, and the parts of the source.
 --     areasRule x n m      13: both areas are tested
 --     admitRules t s       14, 15, table
 --     loadRules t x s      what a load is refused by, in 01's order
@@ -12,8 +12,9 @@ use Prim.Native.Nat.{ℕ, _*_}
 use lib.Dec.{ltb, eqb}
 use lib.ListN.{length}
 use Rattle.history.specs.declared.Job.{Job}
-use Rattle.history.specs.Source.{Source, sourceVerdict, sourceWidth, sourceHeight, sourcePixels}
+use Rattle.history.specs.Source.{Source, sourceVerdict, sourceWidth, sourceHeight, sourceParts, sourcePixels}
 use Rattle.history.specs.State.{State, soundRule}
+use Rattle.image.specs.Strip.{stripOf, noCounts}
 use Rattle.table.specs.declared.Table.{Table}
 use Rattle.table.specs.Record.{recordVerdict}
 use Rattle.verdict.specs.declared.Verdict.{Verdict}
@@ -37,7 +38,17 @@ loadVerdict t x s = judge (loadRules t x s)
 
 unfoldable pub loadedJob : Table → Source → Job
 loadedJob t x =
-    record { stage = 1; width = sourceWidth x; height = sourceHeight x; passes = 0; added = 0; removed = 0; table = t }
+    record {
+      stage = 1;
+      width = sourceWidth x;
+      height = sourceHeight x;
+      passes = 0;
+      added = 0;
+      removed = 0;
+      table = t;
+      strip = stripOf (sourceWidth x) (sourceParts x);
+      counts = noCounts;
+    }
 
 abbrev pub loadAs : Verdict → Table → Source → State → State
 loadAs Accepted t x s = record { job = loadedJob t x; first = over (sourcePixels x) (s .first); second = s .second }

@@ -2,6 +2,7 @@
 --     Outcome            an answer, and record and areas afterwards
 --     nextImage s        the image after one pass on the present one
 --     nowAdded s, nowRemoved s      the record's counts with that pass
+--     nowCounts s        those of the parts
 --     exceeds s          14's pass clause: passes, or added + removed, would rise above the pixels
 --     withNext j s       the record j, and the new image in the area that does not hold the present one
 --     changedJob s, stableJob s     the record after a pass that changes pixels, and after one that changes none
@@ -14,11 +15,14 @@ use mathlib.Core.List.{List}
 use Prim.Native.Nat.{ℕ, _+_}
 use lib.Dec.{ltb, eqb}
 use Rattle.operator.specs.Image.{added, removed, differs}
+use Rattle.operator.specs.Parts.{partCounts, summed}
 use Rattle.operator.specs.Pass.{pass}
 use Rattle.history.specs.declared.Job.{Job}
 use Rattle.history.specs.declared.Passed.{Passed}
 use Rattle.history.specs.declared.Passed.the-variants as passed
 use Rattle.history.specs.State.{State, pixels, even, image, readyVerdict}
+use Rattle.image.specs.declared.strip.PartCounts.{PartCounts}
+use Rattle.image.specs.Strip.{heightsOf}
 use Rattle.verdict.specs.declared.Verdict.{Verdict}
 use Rattle.verdict.specs.declared.Verdict.the-variants.{Accepted, Refused}
 use Rattle.verdict.specs.Rules.{refusal}
@@ -36,6 +40,9 @@ nowAdded s = s .job .added + added (image s) (nextImage s)
 
 unfoldable pub nowRemoved : State → ℕ
 nowRemoved s = s .job .removed + removed (image s) (nextImage s)
+
+unfoldable pub nowCounts : State → PartCounts
+nowCounts s = summed (s .job .counts) (partCounts (s .job .width) (heightsOf (s .job .strip)) (image s) (nextImage s))
 
 unfoldable pub exceeds : State → Bool
 exceeds s = ltb (pixels (s .job)) (s .job .passes + 1) || ltb (pixels (s .job)) (nowAdded s + nowRemoved s)
@@ -56,6 +63,8 @@ changedJob s =
       added = nowAdded s;
       removed = nowRemoved s;
       table = s .job .table;
+      strip = s .job .strip;
+      counts = nowCounts s;
     }
 
 unfoldable pub stableJob : State → Job
@@ -68,6 +77,8 @@ stableJob s =
       added = s .job .added;
       removed = s .job .removed;
       table = s .job .table;
+      strip = s .job .strip;
+      counts = s .job .counts;
     }
 
 unfoldable pub changing : State → Outcome

@@ -4,22 +4,29 @@
 --     Overruns s         14's pass clause: a changing pass that would take passes, or added + removed, above pixels
 --     Ready s            a sound record at stage 1 or 2: none of 14's conditions holds
 -- Assumes nothing.
-use mathlib.Core.Bool.{true, false}
-use mathlib.Core.List.{List·Memᴰ}
+use mathlib.Core.Bool.{false}
+use mathlib.Core.List.{List, List·Memᴰ}
 use mathlib.Core.Logic.{_⊎_, _≢_}
 use mathlib.Core.Path.{_≡_}
 use Prim.Native.Nat.{ℕ, _+_, _≤_, _<_}
 use lib.Dec.{ltb}
-use lib.ListN.{length}
+use lib.ListN.{length, drop}
 use Rattle.history.specs.Pass.{nextImage, nowAdded, nowRemoved}
-use Rattle.history.specs.State.{State, fieldsOf, pixels, image}
-use Rattle.image.specs.Size.{badSize}
-use Rattle.seq.specs.Lists.{any}
+use Rattle.history.specs.State.{State, fieldsOf, partFields, pixels, badParts, image}
+use Rattle.image.specs.Strip.{padded, stripWidth, stripHeight, shapeVerdict}
+use Rattle.seq.specs.Lists.{any, sumOf}
 use Rattle.table.specs.Record.{recordVerdict}
 use Rattle.verdict.specs.declared.Verdict.the-variants.{Accepted}
 
 pub data Inconsistent (s : State) : Type 0 where
-  bad-size : badSize (s .job .width) (s .job .height) ≡ true → Inconsistent s
+  -- 23, or 10 for one of the parts
+  bad-shape : shapeVerdict (s .job .strip) ≢ Accepted → Inconsistent s
+  other-width : s .job .width ≢ stripWidth (s .job .strip) → Inconsistent s
+  other-height : s .job .height ≢ stripHeight (s .job .strip) → Inconsistent s
+  -- a place past the parts: of the widths, the heights, the added or the removed
+  past-parts : (xs : List ℕ) → List·Memᴰ xs (partFields (s .job)) → (v : ℕ) → List·Memᴰ v (drop (s .job .strip .parts) xs) → v ≢ 0 → Inconsistent s
+  other-added : s .job .added ≢ sumOf (padded (s .job .counts .added)) → Inconsistent s
+  other-removed : s .job .removed ≢ sumOf (padded (s .job .counts .removed)) → Inconsistent s
   bad-table : recordVerdict (s .job .table) ≢ Accepted → Inconsistent s
   first-short : length (s .first) < pixels (s .job) → Inconsistent s
   second-short : length (s .second) < pixels (s .job) → Inconsistent s
@@ -44,7 +51,7 @@ pub record Overruns (s : State) : Type 0 where
 pub record Ready (s : State) : Type 0 where
   pub begun : 1 ≤ s .job .stage
   pub staged : s .job .stage ≤ 2
-  pub sized : badSize (s .job .width) (s .job .height) ≡ false
+  pub parts : badParts (s .job) ≡ false
   pub table : recordVerdict (s .job .table) ≡ Accepted
   pub first : pixels (s .job) ≤ length (s .first)
   pub second : pixels (s .job) ≤ length (s .second)

@@ -1,5 +1,6 @@
 pub mod Cases
 pub mod Parts
+pub mod Shapes
 pub mod Digits
 pub mod NumberAt
 pub mod HeaderOf
@@ -17,9 +18,13 @@ pub mod PackedRows
 pub mod Decimal
 pub mod HeaderWritten
 pub mod WriteOf
+pub mod StripLoops
+pub mod Strips
+pub mod StripOf
 pub mod Canonical
 pub mod HeaderParts
 pub mod HeaderBack
 pub mod RasterBack
 pub mod RoundTrip
+pub mod PartFiles
 pub mod Ignored

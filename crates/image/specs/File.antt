@@ -6,7 +6,8 @@
 --     areaRule w h n        13: an area of n bytes is too short for the image
 --     imageVerdict f n, imageRead f n, imageArea f area    the reader on an area of n bytes: its answer, and the area afterwards
 --     readAs v w h          the reader's answer by its verdict
---     pixelRules w h px, pixelVerdict w h px     the rules on pixel bytes: 10, 11, 12; their verdict
+--     bytesRules w h px, bytesVerdict w h px     the rules on the bytes of so many pixels: 11, 12; their verdict
+--     pixelRules w h px, pixelVerdict w h px     the rules on an image's pixel bytes: 10, 11, 12; their verdict
 --     inRow w px row col    the pixel at a row and a column, 0 past the row's end
 --     packed v              eight values as the bits of a byte, the first the highest
 --     rowByte w px row j    byte j of a row of the file
@@ -64,12 +65,17 @@ imageRead f n = readAs (imageVerdict f n) (widthOf f) (heightOf f)
 unfoldable pub imageArea : List ℕ → List ℕ → List ℕ
 imageArea f area = outputOf (imageVerdict f (length area)) (pixelsOf (widthOf f) (heightOf f) (raster f)) area
 
-abbrev pub pixelRules : ℕ → ℕ → List ℕ → List Verdict
-pixelRules w h px =
-    refuseIf (badSize w h) 10 0
-    ∷ refuseIf (not (eqb (length px) (w * h))) 11 0
+abbrev pub bytesRules : ℕ → ℕ → List ℕ → List Verdict
+bytesRules w h px =
+    refuseIf (not (eqb (length px) (w * h))) 11 0
     ∷ refuseAt (first (λ i. ltb 1 (getD px i 0)) (w * h)) 12 (λ i. i / w)
     ∷ []
+
+unfoldable pub bytesVerdict : ℕ → ℕ → List ℕ → Verdict
+bytesVerdict w h px = judge (bytesRules w h px)
+
+abbrev pub pixelRules : ℕ → ℕ → List ℕ → List Verdict
+pixelRules w h px = refuseIf (badSize w h) 10 0 ∷ bytesRules w h px
 
 unfoldable pub pixelVerdict : ℕ → ℕ → List ℕ → Verdict
 pixelVerdict w h px = judge (pixelRules w h px)

@@ -5,6 +5,7 @@ pub mod Majority
 pub mod Parts
 pub mod Padding
 pub mod RoundTrip
+pub mod Strip
 pub mod Ignored
 pub mod Cases
 pub mod Answers

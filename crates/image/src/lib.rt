@@ -8,6 +8,7 @@ ghost use mathlib.Core.Path.{_≡_};
 ghost use lib.ListN.{length};
 ghost use Rattle.image.specs.File.{imageRead, imageArea, pixelVerdict, imageWritten, imageOutput};
 
+mod file;
 mod header;
 mod layout;
 pub mod majority;
@@ -15,6 +16,7 @@ mod number;
 mod pack;
 mod pixels;
 pub mod size;
+pub mod strip;
 mod unpack;
 
 // The most bytes of an image file.
@@ -49,10 +51,7 @@ pub fn check_pixels(width: usize, height: usize, pixels: &[u8]) -> Verdict
     if size::is_bad(width, height) {
         return verdict::refused(verdict::SIZE_RANGE, 0);
     }
-    if pixels.len() != width * height {
-        return verdict::refused(verdict::RASTER_LENGTH, 0);
-    }
-    pixels::check_values(pixels, width, height)
+    pixels::check_bytes(pixels, width, height)
 }
 
 // Writes the file of an image to the front of an output: 10, 11, 12, then 13. All is judged before the first byte is stored.
@@ -63,14 +62,12 @@ pub fn write(width: usize, height: usize, pixels: &[u8], out: &mut [u8]) -> Writ
     let checked = check_pixels(width, height, pixels);
     match checked {
         Verdict::Accepted => {
-            let start = header::length_of(width, height);
-            let end = start + size::row_bytes(width) * height;
-            if out.len() < end {
+            let length = file::length_of(width, height);
+            if out.len() < length {
                 return Written::Refused(verdict::refusal_of(verdict::AREA_SHORT, 0));
             }
-            header::write(width, height, out);
-            pack::image(pixels, width, height, out, start);
-            Written::Length(end)
+            file::put(width, height, pixels, out);
+            Written::Length(length)
         }
         Verdict::Refused(refusal) => Written::Refused(refusal),
     }

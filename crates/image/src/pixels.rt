@@ -3,16 +3,31 @@ use verdict::Verdict;
 ghost use mathlib.Core.Path.{_≡_};
 ghost use Prim.Native.Nat.{_+_, _*_, _/_, _≤_};
 ghost use lib.ListN.{length};
-ghost use Rattle.image.specs.Code.Rows.{Sides, tooLarge};
+ghost use Rattle.image.specs.Code.Rows.{tooLarge};
+ghost use Rattle.image.specs.File.{bytesVerdict};
+ghost use Rattle.image.specs.Size.{maxSide};
+ghost use Rattle.image.specs.Strip.{maxRows};
 ghost use Rattle.seq.specs.Lists.{isSome};
 ghost use Rattle.seq.specs.Tab.{first};
 ghost use Rattle.verdict.specs.Rules.{refuseAt};
+ghost use Rattle.verdict.specs.Writer.{over};
 
 const BLACK: u8 = 1;
 
+// Judges the bytes of so many pixels: 11 (their count), 12 (a byte above 1, at its row).
+pub(crate) fn check_bytes(pixels: &[u8], width: usize, height: usize) -> Verdict
+    requires { ⌜ (1 ≤ width) × (width ≤ maxSide) × (height ≤ maxRows) ⌝ }
+    ensures { λ r. ⌜ r ≡ bytesVerdict width height (now (pixels .entry)) ⌝ }
+{
+    if pixels.len() != width * height {
+        return verdict::refused(verdict::RASTER_LENGTH, 0);
+    }
+    check_values(pixels, width, height)
+}
+
 // Refuses the lowest row that has a byte above 1; `from` is the place of a row's first pixel.
-pub(crate) fn check_values(pixels: &[u8], width: usize, height: usize) -> Verdict
-    requires { ⌜ Sides width height × (length (now pixels) ≡ width * height) ⌝ }
+fn check_values(pixels: &[u8], width: usize, height: usize) -> Verdict
+    requires { ⌜ (1 ≤ width) × (length (now pixels) ≡ width * height) ⌝ }
     ensures { λ r. ⌜ r ≡ refuseAt (first (tooLarge (now (pixels .entry))) (width * height)) 12 (λ i. i / width) ⌝ }
 {
     let mut from = 0;
@@ -41,4 +56,16 @@ fn row_exceeds(pixels: &[u8], from: usize, width: usize) -> bool
         col += 1;
     }
     above
+}
+
+// The pixels to the front of an area.
+pub(crate) fn copy(pixels: &[u8], area: &mut [u8])
+    requires { ⌜ length (now pixels) ≤ length (now area) ⌝ }
+    ensures { λ _. ⌜ now (area .exit) ≡ over (now (pixels .entry)) (now (area .entry)) ⌝ }
+{
+    let mut i = 0;
+    while i < pixels.len() {
+        area[i] = pixels[i];
+        i += 1;
+    }
 }

@@ -15,16 +15,16 @@ pub(crate) const MAX_RASTER: usize = MAX_PIXELS / BYTE_PIXELS;
 pub fn is_bad(width: usize, height: usize) -> bool
     ensures { λ r. ⌜ r ≡ badSize width height ⌝ }
 {
-    if !is_within(width) {
+    if !is_within(MAX_SIDE, width) {
         return true;
     }
-    !is_within(height)
+    !is_within(MAX_SIDE, height)
 }
 
-fn is_within(n: usize) -> bool
-    ensures { λ r. ⌜ r ≡ within maxSide n ⌝ }
+pub(crate) fn is_within(limit: usize, n: usize) -> bool
+    ensures { λ r. ⌜ r ≡ within limit n ⌝ }
 {
-    1 <= n && n <= MAX_SIDE
+    1 <= n && n <= limit
 }
 
 // The bytes of a row in a file.

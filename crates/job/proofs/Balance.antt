@@ -15,13 +15,13 @@ use lib.Signed.{mag}
 use mir.Syntax.{w64}
 use mir.Val.{SFits, toZ, ofZ}
 use mir.ValLaws.{toZ-pos, toZ-ofZ}
-use Rattle.image.specs.Size.{maxPixels}
+use Rattle.image.specs.Strip.{maxStrip}
 
 sub-pos : (a b : ℕ) → pos a -ℤ pos b ≡ subℕ a b
 sub-pos a zero = rw (le-ltb a 0 (omega arith)) (ap pos (omega arith))
 sub-pos a (suc b) = refl
 
-module _ (a b : ℕ) (h : a + b ≤ maxPixels) where
+module _ (a b : ℕ) (h : a + b ≤ maxStrip) where
   fits : SFits w64 (subℕ a b)
   fits = record { sfits = by (ltb a b) refl }
     where

@@ -6,7 +6,7 @@
 --     written, unwritten           the writer's answer
 -- Assumes nothing.
 use mathlib.Core.List.{List}
-use mathlib.Core.Path.{_≡_, refl, sym, _∙_}
+use mathlib.Core.Path.{_≡_, refl, sym, ap, _∙_}
 use Prim.Native.Nat.{ℕ}
 use native.Mathlib.Omega.{arith}
 use borrow.Author.Tests.{eq-eqb, ne-eqb}
@@ -15,10 +15,11 @@ use lib.ListN.{length}
 use Rattle.history.specs.Collect.{collected, collectVerdict, collectWritten, collectOutput, collectAs, collectState}
 use Rattle.history.specs.declared.Job.{Job}
 use Rattle.history.specs.State.{State, image, emptyJob, readyVerdict}
-use Rattle.image.specs.File.{imageBytes, writeVerdict, imageWritten, imageOutput}
+use Rattle.image.specs.declared.strip.Strip.{Strip}
+use Rattle.image.specs.Strip.{heightsOf, stripWidth, stripBytes, stripWriteVerdict, stripWritten, stripOutput}
 use Rattle.job.specs.declared.Emptied.{Emptied}
 use Rattle.job.specs.Core.{emptied}
-use Rattle.history.proofs.Ready.{accepted-ready, ready-writable}
+use Rattle.history.proofs.Ready.{accepted-ready, ready-parts, ready-writable}
 use Rattle.history.proofs.States.{collect-split}
 use Rattle.verdict.specs.declared.Refusal.{Refusal}
 use Rattle.verdict.specs.declared.Verdict.{Verdict}
@@ -45,9 +46,9 @@ areas-stay n s = by (collectVerdict n s)
     by (Refused r) = (refl, refl)
 
 -- the writer on equal pixels
-pub same-pixels : (w h : ℕ) (out : List ℕ) {px qx after : List ℕ} {a : Written} → px ≡ qx
-    → (a ≡ imageWritten w h px (length out)) × (after ≡ imageOutput w h px out) → (a ≡ imageWritten w h qx (length out)) × (after ≡ imageOutput w h qx out)
-same-pixels w h out e m = rw (sym e) m
+pub same-pixels : (p : Strip) (out : List ℕ) {px qx after : List ℕ} {a : Written} → px ≡ qx
+    → (a ≡ stripWritten p px (length out)) × (after ≡ stripOutput p px out) → (a ≡ stripWritten p qx (length out)) × (after ≡ stripOutput p qx out)
+same-pixels p out e m = rw (sym e) m
 
 module _ (s : State) (out : List ℕ) where
   refused : {r : Refusal} → collectVerdict (length out) s ≡ Refused r → Collected s out (record { answer = writing.Refused r; job = s .job }) out
@@ -62,23 +63,27 @@ module _ (s : State) (out : List ℕ) where
   unsettled e z = refused (collect-split (length out) s ∙ rw (e, eq-eqb (s .job .stage) 1 z))
 
   module _ (ok : readyVerdict s ≡ Accepted) (settled : s .job .stage ≡ 1 → ⊥) {after : List ℕ} {w : Written}
-      (a : w ≡ imageWritten (s .job .width) (s .job .height) (image s) (length out))
-      (o : after ≡ imageOutput (s .job .width) (s .job .height) (image s) out) where
+      (a : w ≡ stripWritten (s .job .strip) (image s) (length out)) (o : after ≡ stripOutput (s .job .strip) (image s) out) where
+    -- what is written
+    files : collected s ≡ stripBytes (stripWidth (s .job .strip)) (heightsOf (s .job .strip)) (image s)
+    unfolding collected
+    files = ap (λ (x : ℕ). stripBytes x (heightsOf (s .job .strip)) (image s)) (ready-parts (accepted-ready s ok) .width)
+
     -- the writer's verdict is what is left
-    verdict : collectVerdict (length out) s ≡ writeVerdict (s .job .width) (s .job .height) (image s) (length out)
-    unfolding collected writeVerdict
+    verdict : collectVerdict (length out) s ≡ stripWriteVerdict (s .job .strip) (image s) (length out)
+    unfolding stripWriteVerdict
     verdict =
         collect-split (length out) s
-        ∙ rw (ok, ne-eqb (s .job .stage) 1 settled, ready-writable (accepted-ready s ok))
-        (orElse-accepted (refuseIf (ltb (length out) (length (imageBytes (s .job .width) (s .job .height) (image s)))) 13 0))
+        ∙ rw (ok, ne-eqb (s .job .stage) 1 settled, ready-writable (accepted-ready s ok), sym files)
+        (orElse-accepted (refuseIf (ltb (length out) (length (collected s))) 13 0))
 
     answer : w ≡ collectWritten (length out) s
-    unfolding collectWritten imageWritten collected
-    answer = a ∙ rw verdict
+    unfolding collectWritten stripWritten
+    answer = a ∙ rw (verdict, files)
 
     output : after ≡ collectOutput out s
-    unfolding collectOutput imageOutput collected
-    output = o ∙ rw verdict
+    unfolding collectOutput stripOutput
+    output = o ∙ rw (verdict, files)
 
     -- the record is emptied exactly where a length is answered
     pub written : {n : ℕ} → w ≡ writing.Length n → {j : Job} → j ≡ emptyJob → Collected s out (record { answer = w; job = j }) after

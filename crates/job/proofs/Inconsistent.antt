@@ -9,8 +9,7 @@ use Prim.Native.Nat.{ℕ, _+_, _≤_, _<_}
 use borrow.Author.Tests.{lt-ltb, le-ltb}
 use lib.Dec.{ltb}
 use lib.ListN.{length}
-use Rattle.history.specs.State.{State, pixels, image, inconsistent}
-use Rattle.image.specs.Size.{badSize}
+use Rattle.history.specs.State.{State, pixels, image, badParts, inconsistent}
 use Rattle.seq.specs.Lists.{any}
 use Rattle.table.specs.Record.{recordVerdict}
 use Rattle.verdict.specs.declared.Verdict.the-variants.{Accepted}
@@ -18,12 +17,12 @@ use Rattle.verdict.specs.declared.Verdict.the-variants.{Accepted}
 pub pixels-seen : {px qx : List ℕ} {b : Bool} → px ≡ qx → b ≡ any (ltb 1) px → any (ltb 1) qx ≡ b
 pixels-seen e p = sym (p ∙ ap (any (ltb 1)) e)
 
-module _ (s : State) (sized : badSize (s .job .width) (s .job .height) ≡ false) (table : recordVerdict (s .job .table) ≡ Accepted)
+module _ (s : State) (parts : badParts (s .job) ≡ false) (table : recordVerdict (s .job .table) ≡ Accepted)
     (first : pixels (s .job) ≤ length (s .first)) (second : pixels (s .job) ≤ length (s .second)) where
   left : inconsistent s
       ≡ (any (ltb 1) (image s) || (ltb (pixels (s .job)) (s .job .passes) || ltb (pixels (s .job)) (s .job .added + s .job .removed)))
   unfolding inconsistent
-  left = rw (sized, table, le-ltb _ _ first, le-ltb _ _ second)
+  left = rw (parts, table, le-ltb _ _ first, le-ltb _ _ second)
 
   pub stained : any (ltb 1) (image s) ≡ true → true ≡ inconsistent s
   stained e = sym (left ∙ rw e)

@@ -2,9 +2,13 @@ pub mod Seen
 pub mod Counts
 pub mod Areas
 pub mod Inconsistent
+pub mod PartTests
 pub mod Runs
+pub mod OnePart
 pub mod Trails
 pub mod Concluded
+pub mod Crossings
+pub mod StripRuns
 pub mod Balance
 pub mod Black
 pub mod Views

@@ -2,6 +2,8 @@
 --     LoadedAs t x s r after        answer, record and areas are as the definition says
 --     admit-unsound, admit-full, admit-table     14, 15 and the table
 --     not-admitted, entered         refused before the reader is called, and after it
+--     PartsOf x n p                 p is the record of the parts of the source x, where its reader accepts an area of n bytes
+--     single-parts, strip-parts     so it is of a single image, and of a strip with zeros past its parts
 -- Assumes nothing.
 use mathlib.Core.Bool.{Bool, true, false, _||_}
 use mathlib.Core.List.{List, [], _∷_, _++_, append-assoc}
@@ -13,10 +15,15 @@ use lib.Dec.{ltb}
 use lib.ListN.{length, take, drop, length-take, take-append-drop}
 use lib.Seq.{drop-append-le}
 use Rattle.history.specs.Load.{areasRule, admitRules, loadVerdict, loadedJob, loadState}
-use Rattle.history.specs.Source.{Source, sourceVerdict, sourceWidth, sourceHeight, sourcePixels, sourceRead, sourceArea}
+use Rattle.history.specs.Source.{Source, fromStrip, sourceVerdict, sourceWidth, sourceHeight, sourceParts, sourcePixels, sourceRead, sourceArea}
 use Rattle.history.specs.State.{State, unsound}
 use Rattle.history.proofs.Sources.{source-length, areaVerdict, source-read, source-area}
+use Rattle.image.proofs.Shapes.{kept-strip}
+use Rattle.image.proofs.StripOf.{accepted-shape}
+use Rattle.image.specs.Answers.{readWidth, readHeight}
 use Rattle.image.specs.declared.ImageRead.{ImageRead}
+use Rattle.image.specs.declared.strip.Strip.{Strip}
+use Rattle.image.specs.Strip.{stripVerdict, stripOf, kept}
 use Rattle.image.specs.File.{areaRule, readAs}
 use Rattle.job.specs.declared.Loaded.{Loaded}
 use Rattle.job.specs.Core.{loaded, entering}
@@ -27,7 +34,7 @@ use Rattle.verdict.specs.declared.Verdict.{Verdict}
 use Rattle.verdict.specs.declared.Verdict.the-variants.{Accepted, Refused}
 use Rattle.verdict.specs.Rules.{refusal, orElse, judge}
 use Rattle.verdict.specs.Writer.{over, outputOf}
-use Rattle.verdict.proofs.Rules.{orElse-right, refuseIf-accepted, orElse-accepted, judge-append}
+use Rattle.verdict.proofs.Rules.{orElse-left, orElse-right, refuseIf-accepted, orElse-accepted, judge-append}
 
 abbrev pub LoadedAs : Table → Source → State → Loaded → List ℕ → Type 0
 LoadedAs t x s r after =
@@ -59,6 +66,17 @@ over-part px area m h =
     append-assoc px (drop (length px) (take m area)) (drop m area)
     ∙ ap (λ (l : List ℕ). px ++ l) (sym (drop-append-le (length px) (take m area) (drop m area) h) ∙ ap (drop (length px)) (take-append-drop m area))
 
+-- the record of the source's parts, where its reader accepts
+abbrev pub PartsOf : Source → ℕ → Strip → Type 0
+PartsOf x n p = areaVerdict x n ≡ Accepted → p ≡ stripOf (sourceWidth x) (sourceParts x)
+
+pub single-parts : (x : Source) (n : ℕ) → sourceParts x ≡ sourceHeight x ∷ [] → {a : ImageRead} {p : Strip} → a ≡ sourceRead x n
+    → p ≡ stripOf (readWidth a) (readHeight a ∷ []) → PartsOf x n p
+single-parts x n one q e ok = e ∙ ap (λ (a : ImageRead). stripOf (readWidth a) (readHeight a ∷ [])) (q ∙ source-read x n) ∙ rw (ok, one)
+
+pub strip-parts : (p : Strip) (px : List ℕ) (n : ℕ) {q : Strip} → q ≡ kept p → PartsOf (fromStrip p px) n q
+strip-parts p px n e ok = e ∙ kept-strip p (accepted-shape p px (orElse-left (stripVerdict p px) _ ok))
+
 module _ (t : Table) (x : Source) (s : State) where
   -- what is judged before the reader, and behind it
   split : loadVerdict t x s ≡ orElse (judge (admitRules t s)) (judge (sourceVerdict x ∷ areasRule x (length (s .first)) (length (s .second)) ∷ []))
@@ -89,16 +107,16 @@ module _ (t : Table) (x : Source) (s : State) where
     fits : areaVerdict x (length part) ≡ Accepted → length (sourcePixels x) ≤ length part
     fits e =
         let rule = orElse-right (sourceVerdict x) (areaRule (sourceWidth x) (sourceHeight x) (length part)) e in
-        rw (source-length x) (ltb-false _ _ (refuseIf-accepted (ltb (length part) (sourceWidth x * sourceHeight x)) 13 0 rule))
+        rw (source-length x (orElse-left (sourceVerdict x) _ e)) (ltb-false _ _ (refuseIf-accepted (ltb (length part) (sourceWidth x * sourceHeight x)) 13 0 rule))
 
-    by-verdict : (v : Verdict) → areaVerdict x (length part) ≡ v
-        → LoadedAs t x s (entering (s .job) t (readAs v (sourceWidth x) (sourceHeight x))) (outputOf v (sourcePixels x) part ++ drop m (s .first))
+    by-verdict : (p : Strip) → PartsOf x (length part) p → (v : Verdict) → areaVerdict x (length part) ≡ v
+        → LoadedAs t x s (entering (s .job) t p (readAs v (sourceWidth x) (sourceHeight x))) (outputOf v (sourcePixels x) part ++ drop m (s .first))
     unfolding loadState loadedJob part
-    by-verdict Accepted e = rw (verdict, e, over-part (sourcePixels x) (s .first) m (fits e)) (refl, refl, refl)
-    by-verdict (Refused r) e = rw (take-append-drop m (s .first)) (refused (verdict ∙ e))
+    by-verdict p k Accepted e = rw (verdict, e, over-part (sourcePixels x) (s .first) m (fits e), k e) (refl, refl, refl)
+    by-verdict p k (Refused r) e = rw (take-append-drop m (s .first)) (refused (verdict ∙ e))
 
-    pub entered : {a : ImageRead} {area : List ℕ} {r : Loaded} → a ≡ sourceRead x (length (take m (s .first))) → area ≡ sourceArea x (take m (s .first))
-        → r ≡ entering (s .job) t a → LoadedAs t x s r (area ++ drop m (s .first))
+    pub entered : {a : ImageRead} {area : List ℕ} {p : Strip} {r : Loaded} → a ≡ sourceRead x (length (take m (s .first))) → area ≡ sourceArea x (take m (s .first))
+        → PartsOf x (length (take m (s .first))) p → r ≡ entering (s .job) t p a → LoadedAs t x s r (area ++ drop m (s .first))
     unfolding part
-    entered p q e =
-        rw (e, p ∙ source-read x (length part), q ∙ source-area x part) (by-verdict (areaVerdict x (length part)) refl)
+    entered {p = p} a q k e =
+        rw (e, a ∙ source-read x (length part), q ∙ source-area x part) (by-verdict p k (areaVerdict x (length part)) refl)

@@ -33,10 +33,10 @@ module _ (n : ℕ) (s : State) where
   unfolding made
   made-first e = ap (λ (o : Outcome). after o (made n (o .state)) (o .answer)) e
 
-  made-goes : passLoaded s .answer ≡ Changed → made (suc n) s ≡ made n (passLoaded s .state)
+  pub made-goes : passLoaded s .answer ≡ Changed → made (suc n) s ≡ made n (passLoaded s .state)
   made-goes e = made-first refl ∙ ap (after (passLoaded s) (made n (passLoaded s .state))) e
 
-  made-ends : (passLoaded s .answer ≡ Changed → ⊥) → made (suc n) s ≡ passLoaded s
+  pub made-ends : (passLoaded s .answer ≡ Changed → ⊥) → made (suc n) s ≡ passLoaded s
   made-ends h = made-first refl ∙ after-ends (passLoaded s) (made n (passLoaded s .state)) (passLoaded s .answer) h
 
 pub made-one : (s : State) → made 1 s ≡ passLoaded s

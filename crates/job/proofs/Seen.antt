@@ -2,22 +2,23 @@
 --     above-or      a join is above 2 ^ k − 1 exactly when one of the two is
 --     seen-more     where the loop stands, one number more
 --     seen-zero     at its end: the join is 0 exactly when each number is
---     nonzero-join, nonzero-persistents, nonzero-elements    a record with a nonzero field, by the code's tests
+--     nonzero-join, nonzero-persistents, nonzero-elements, nonzero-parts    a record with a nonzero field, by the code's tests
 -- Assumes nothing.
-use mathlib.Core.Bool.{Bool, true, false, not, _&&_, _||_, and-assoc, and-true, and-false, Bool·not-not}
+use mathlib.Core.Bool.{Bool, true, false, not, _&&_, _||_, and-assoc, and-false}
 use mathlib.Core.List.{List}
-use mathlib.Core.Path.{_≡_, refl, sym, ap, _∙_}
+use mathlib.Core.Path.{_≡_, refl, sym, ap, ap₂, _∙_}
 use Prim.Native.Nat.{ℕ, _+_, _-_, _^_, _<_}
 use native.Mathlib.Omega.{arith}
-use borrow.Author.Tests.{ltb-true, ltb-false, eqb-true, eqb-false, lt-ltb, le-ltb, eq-eqb, ne-eqb}
+use borrow.Author.Tests.{ltb-true, ltb-false, eqb-true, eqb-false, not-true, not-false, lt-ltb, le-ltb, eq-eqb, ne-eqb}
 use lib.Bits.{bitOr, or-lt, or-add-and, and-le-l, and-le-r}
 use lib.Dec.{ltb, eqb}
 use lib.ListN.{length, getD, take}
 use lib.Pow.{pow-pos}
 use Rattle.history.specs.declared.Job.{Job}
-use Rattle.history.specs.State.{nonzero}
-use Rattle.seq.specs.Lists.{any, all}
-use Rattle.seq.proofs.Fronts.{any-front, all-append}
+use Rattle.history.specs.State.{partFields, nonzero}
+use Rattle.job.specs.Code.Parts.{setFrom}
+use Rattle.seq.specs.Lists.{any, all, join}
+use Rattle.seq.proofs.Fronts.{any-front, all-append, all-join}
 use Rattle.seq.proofs.Lists.{any-ext, not-all}
 
 module _ (k : ℕ) where
@@ -77,24 +78,45 @@ zero-or a b = step (eqb 0 a) refl (eqb 0 b) refl
 
 -- the join of a record's numbers
 abbrev pub joined : Job → ℕ
-joined j = bitOr (bitOr (bitOr (j .width) (j .height)) (j .passes)) (bitOr (bitOr (bitOr (j .added) (j .removed)) (j .table .count)) (j .table .ranks))
+joined j =
+    bitOr (bitOr (bitOr (j .width) (j .height)) (j .passes))
+    (bitOr (bitOr (bitOr (bitOr (j .added) (j .removed)) (j .table .count)) (j .table .ranks)) (j .strip .parts))
 
-nonzero-joined : (j : Job) → nonzero j ≡ not (eqb 0 (joined j) && (all (eqb 0) (j .table .elements) && all (eqb 0) (j .table .persistents)))
-unfolding nonzero
-nonzero-joined j = simp (zero-or, and-assoc, all-append)
+module _ (j : Job) where
+  -- each mask and each number of a part is zero
+  abbrev no-elements : Bool
+  no-elements = all (eqb 0) (j .table .elements)
 
-pub nonzero-join : (j : Job) → (joined j ≡ 0 → ⊥) → true ≡ nonzero j
-nonzero-join j h = sym (nonzero-joined j ∙ rw (ne-eqb 0 (joined j) (λ z. h (sym z))))
+  abbrev no-persistents : Bool
+  no-persistents = all (eqb 0) (j .table .persistents)
 
-module _ (j : Job) (z : joined j ≡ 0) where
-  -- what is left of the test where the numbers are zero
-  left : {b : Bool} → not (all (eqb 0) (j .table .persistents)) ≡ b → nonzero j ≡ not (all (eqb 0) (j .table .elements) && not b)
-  left e =
-      nonzero-joined j ∙ rw (eq-eqb 0 (joined j) (sym z))
-      (ap (λ (b : Bool). not (all (eqb 0) (j .table .elements) && b)) (sym (Bool·not-not (all (eqb 0) (j .table .persistents))) ∙ ap not e))
+  abbrev no-parts : Bool
+  no-parts = all (eqb 0) (join (partFields j))
 
-  pub nonzero-persistents : not (all (eqb 0) (j .table .persistents)) ≡ true → true ≡ nonzero j
-  nonzero-persistents e = sym (left e ∙ ap not (and-false (all (eqb 0) (j .table .elements))))
+  nonzero-joined : nonzero j ≡ not (eqb 0 (joined j) && (no-elements && (no-persistents && no-parts)))
+  unfolding nonzero
+  nonzero-joined = simp (zero-or, and-assoc, all-append)
 
-  pub nonzero-elements : not (all (eqb 0) (j .table .persistents)) ≡ false → not (all (eqb 0) (j .table .elements)) ≡ nonzero j
-  nonzero-elements e = sym (left e ∙ ap not (and-true (all (eqb 0) (j .table .elements))))
+  pub nonzero-join : (joined j ≡ 0 → ⊥) → true ≡ nonzero j
+  nonzero-join h = sym (nonzero-joined ∙ rw (ne-eqb 0 (joined j) (λ z. h (sym z))))
+
+  module _ (z : joined j ≡ 0) where
+    -- what is left of the test where the numbers are zero
+    left : nonzero j ≡ not (no-elements && (no-persistents && no-parts))
+    left = nonzero-joined ∙ ap (λ (b : Bool). not (b && (no-elements && (no-persistents && no-parts)))) (eq-eqb 0 (joined j) (sym z))
+
+    pub nonzero-persistents : not no-persistents ≡ true → true ≡ nonzero j
+    nonzero-persistents e =
+        sym (left ∙ ap (λ (b : Bool). not (no-elements && (b && no-parts))) (not-true no-persistents e) ∙ ap not (and-false no-elements))
+
+    pub nonzero-elements : not no-elements ≡ true → true ≡ nonzero j
+    nonzero-elements e = sym (left ∙ ap (λ (b : Bool). not (b && (no-persistents && no-parts))) (not-true no-elements e))
+
+    pub nonzero-parts : not no-persistents ≡ false → not no-elements ≡ false → any (setFrom 0) (partFields j) ≡ nonzero j
+    nonzero-parts e f =
+        sym (
+        left
+        ∙ ap₂ (λ (a b : Bool). not (a && (b && no-parts))) (not-false no-elements f) (not-false no-persistents e)
+        ∙ ap not (all-join (eqb 0) (partFields j))
+        ∙ not-all (all (eqb 0)) (partFields j)
+        )

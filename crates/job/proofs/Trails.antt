@@ -22,16 +22,18 @@ use lib.Dec.{ltb}
 use lib.ListN.{take}
 use Rattle.history.specs.declared.Job.{Job}
 use Rattle.history.specs.declared.Passed.the-variants as passed
-use Rattle.history.specs.Pass.{Outcome, nextImage, nowAdded, nowRemoved, exceeds, withNext, changedJob, stableJob, changing, passLoaded}
+use Rattle.history.specs.Pass.{Outcome, nextImage, nowAdded, nowRemoved, nowCounts, exceeds, withNext, changedJob, stableJob, changing, passLoaded}
 use Rattle.history.specs.State.{State, pixels, even, present, image}
 use Rattle.history.proofs.Areas.{even-next}
-use Rattle.job.specs.Code.Passes.{made, allowed, answerOf, after, concluded}
+use Rattle.job.specs.Code.Passes.{made, allowed, answerOf, ofOne, doneOnOne, after, concluded}
 use Rattle.job.specs.Core.{at}
 use Rattle.filter.specs.declared.Budget.{Budget}
 use Rattle.filter.specs.Repeated.{Trail, begin, shown, next, onward, stops, rested, Ended, follow, answered}
 use Rattle.job.proofs.Counts.{ltb-sub}
+use Rattle.job.proofs.OnePart.{One, one-none, one-counts}
 use Rattle.job.proofs.Runs.{made-first}
 use Rattle.operator.specs.Image.{added, removed, differs}
+use Rattle.operator.specs.Parts.{summed}
 use Rattle.seq.proofs.Lists.{either}
 use Rattle.seq.proofs.Tests.{or-none-left, or-none-right}
 use Rattle.table.specs.declared.Table.{Table}
@@ -42,10 +44,10 @@ abbrev pub standing : Job → Trail → State
 standing j c = cond (even (j .passes)) (at j (c .here) (c .there)) (at j (c .there) (c .here))
 
 abbrev pub since : Job → Trail → Job
-since j c = after j (j .stage) (c .passes) (c .added) (c .removed)
+since j c = after j (j .stage) (c .passes) (c .added) (c .removed) (ofOne (c .added) (c .removed))
 
 abbrev pub outcome : Job → Ended → Outcome
-outcome j e = record { answer = answerOf (e .end); state = standing (concluded j (answered e) .job) (e .trail) }
+outcome j e = record { answer = answerOf (e .end); state = standing (concluded j (doneOnOne (answered e)) .job) (e .trail) }
 
 module _ (j : Job) (c : Trail) where
   pub standing-image : image (standing j c) ≡ take (pixels j) (c .here)
@@ -61,8 +63,8 @@ module _ (j : Job) (c : Trail) where
   pub standing-second : standing j c .second ≡ cond (even (j .passes)) (c .there) (c .here)
   standing-second = ⊎-elim (λ e. rw e) (λ e. rw e) (either (even (j .passes)))
 
-pub since-none : (j : Job) (here there : List ℕ) → since j (begin here there) ≡ j
-since-none j here there = rw (add-zero (j .passes), add-zero (j .added), add-zero (j .removed))
+pub since-none : (j : Job) → One j → (here there : List ℕ) → since j (begin here there) ≡ j
+since-none j o here there = rw (one-none o, add-zero (j .passes), add-zero (j .added), add-zero (j .removed))
 
 -- the other way round
 pub turn {ℓ} : {A : Type ℓ} (b : Bool) (x y : A) → cond b x y ≡ cond (not b) y x
@@ -86,11 +88,15 @@ module _ (j : Job) (c : Trail) where
   abbrev resting : Trail
   resting = rested (j .table) (j .width) (j .height) c
 
+  -- the record at rest
+  abbrev rested-job : Job
+  rested-job = after j 2 (c .passes) (c .added) (c .removed) (ofOne (c .added) (c .removed))
+
   abbrev full : ℕ → Bool
   full n = stops (j .table) (j .width) (j .height) (allowed j n) c
 
 -- on the job j, with the passes made since
-module _ (j : Job) (c : Trail) (s : State) (e : s ≡ standing (since j c) c) where
+module _ (j : Job) (o : One j) (c : Trail) (s : State) (e : s ≡ standing (since j c) c) where
   job-here : s .job ≡ since j c
   job-here = ap (λ (t : State). t .job) e ∙ standing-job (since j c) c
 
@@ -117,9 +123,16 @@ module _ (j : Job) (c : Trail) (s : State) (e : s ≡ standing (since j c) c) wh
       counts : ltb (pixels j) (j .added + onwards j c .added + (j .removed + onwards j c .removed)) ≡ ltb (pixels j - (j .added + j .removed)) (onwards j c .added + onwards j c .removed)
       counts = ap (ltb (pixels j)) (omega arith) ∙ sym (ltb-sub (pixels j) (j .added + j .removed) (onwards j c .added + onwards j c .removed) q)
 
+  -- the counts of the one part
+  part-here : nowCounts s ≡ summed (j .counts) (ofOne (onwards j c .added) (onwards j c .removed))
+  unfolding nowCounts onward next shown
+  part-here =
+      rw (next-here, image-here, job-here, o .heights)
+      (one-counts (j .table) (j .width) (j .height) (c .here) (take (pixels j) (c .here)) (j .counts) (c .added) (c .removed))
+
   changed-job : j .stage ≡ 1 → changedJob s ≡ since j (onwards j c)
   unfolding changedJob onward
-  changed-job z = rw (counts-here .0, counts-here .1, job-here, z, add-assoc)
+  changed-job z = rw (part-here, counts-here .0, counts-here .1, job-here, z, add-assoc)
 
   -- the next image goes to the other area
   put-next : (k : Job) → withNext k s ≡ cond (even (j .passes + c .passes)) (at k (c .here) (written j c)) (at k (written j c) (c .here))
@@ -140,13 +153,13 @@ module _ (j : Job) (c : Trail) (s : State) (e : s ≡ standing (since j c) c) wh
       turned : even (j .passes + (c .passes + 1)) ≡ not (even (j .passes + c .passes))
       turned = ap even (sym (add-assoc (j .passes) (c .passes) 1)) ∙ even-next (j .passes + c .passes)
 
-  stable-job : stableJob s ≡ after j 2 (c .passes) (c .added) (c .removed)
+  stable-job : stableJob s ≡ rested-job j c
   unfolding stableJob
   stable-job = rw job-here
 
-  rested-here : withNext (stableJob s) s ≡ standing (after j 2 (c .passes) (c .added) (c .removed)) (resting j c)
+  rested-here : withNext (stableJob s) s ≡ standing (rested-job j c) (resting j c)
   unfolding rested
-  rested-here = rw stable-job (put-next (after j 2 (c .passes) (c .added) (c .removed)))
+  rested-here = rw stable-job (put-next (rested-job j c))
 
   -- the three ways that the pass goes
   changes : differs (before j c) (upcoming j c) ≡ true → passLoaded s ≡ changing s
@@ -154,7 +167,7 @@ module _ (j : Job) (c : Trail) (s : State) (e : s ≡ standing (since j c) c) wh
   changes d = let f : differs (image s) (nextImage s) ≡ true = rw (next-here, image-here) d in rw f
 
   pass-rests : differs (before j c) (upcoming j c) ≡ false
-      → passLoaded s ≡ record { answer = passed.Stable; state = standing (after j 2 (c .passes) (c .added) (c .removed)) (resting j c) }
+      → passLoaded s ≡ record { answer = passed.Stable; state = standing (rested-job j c) (resting j c) }
   unfolding passLoaded
   pass-rests d = let f : differs (image s) (nextImage s) ≡ false = rw (next-here, image-here) d in rw (f, rested-here)
 
@@ -172,15 +185,15 @@ module _ (j : Job) (c : Trail) (s : State) (e : s ≡ standing (since j c) c) wh
 abbrev pub followed : Job → ℕ → ℕ → Trail → Ended
 followed j limit n c = follow (j .table) (j .width) (j .height) (allowed j limit) n c
 
-module _ (j : Job) (limit : ℕ) (z : j .stage ≡ 1) (p : j .passes ≤ pixels j) (q : j .added + j .removed ≤ pixels j) where
+module _ (j : Job) (o : One j) (limit : ℕ) (z : j .stage ≡ 1) (p : j .passes ≤ pixels j) (q : j .added + j .removed ≤ pixels j) where
   -- one pass more, where those after it are as on the job
   module _ (n : ℕ) (c : Trail) (s : State) (e : s ≡ standing (since j c) c)
       (rest : made n (standing (since j (onwards j c)) (onwards j c)) ≡ outcome j (followed j limit n (onwards j c))) where
     first-made : (d : Bool) → differs (before j c) (upcoming j c) ≡ d → (x : Bool) → full j c limit ≡ x → made (suc n) s ≡ outcome j (followed j limit (suc n) c)
     unfolding follow rested
-    first-made false d x f = made-first n s (pass-rests j c s e d) ∙ rw d
-    first-made true d true f = made-first n s (pass-stops j c s e limit p q d f) ∙ rw (d, f, e)
-    first-made true d false f = made-first n s (pass-goes j c s e limit p q d f z) ∙ rest ∙ rw (d, f)
+    first-made false d x f = made-first n s (pass-rests j o c s e d) ∙ rw d
+    first-made true d true f = made-first n s (pass-stops j o c s e limit p q d f) ∙ rw (d, f, e)
+    first-made true d false f = made-first n s (pass-goes j o c s e limit p q d f z) ∙ rest ∙ rw (d, f)
 
   pub follow-made : (n : ℕ) (c : Trail) → made n (standing (since j c) c) ≡ outcome j (followed j limit n c)
   unfolding made follow

@@ -17,10 +17,9 @@ use Rattle.history.specs.declared.Figured.the-variants as figured
 use Rattle.history.specs.State.{State, pixels, image, readyVerdict}
 use Rattle.history.specs.View.{viewOf, cover, figuresOf}
 use Rattle.history.specs.Sound.{Ready}
-use Rattle.history.proofs.Ready.{ready-image}
-use Rattle.image.specs.Size.{maxPixels}
+use Rattle.history.proofs.Ready.{ready-image, ready-small}
+use Rattle.image.specs.Strip.{maxStrip}
 use Rattle.job.proofs.Black.{black-few}
-use Rattle.job.proofs.Concluded.{ready-small}
 use Rattle.verdict.specs.declared.Refusal.{Refusal}
 use Rattle.verdict.specs.declared.Verdict.the-variants.{Accepted, Refused}
 
@@ -52,5 +51,5 @@ module _ (s : State) where
 pub black-of : {px qx : List ℕ} {n : ℕ} → px ≡ qx → n ≡ black px → n ≡ black qx
 black-of e p = p ∙ ap black e
 
-pub few-black : {s : State} → Ready s → {n : ℕ} → n ≡ black (image s) → n ≤ maxPixels
+pub few-black : {s : State} → Ready s → {n : ℕ} → n ≡ black (image s) → n ≤ maxStrip
 few-black {s} r e = omega (arith, black-few (image s), ready-image r .sized, ready-small r)

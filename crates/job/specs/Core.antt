@@ -1,7 +1,7 @@
 -- The calls as functions that take the record by value and hand it back.
 --     at j a b         a job record with its two areas
 --     loaded v s, stepped o, emptied w s     an answer and the record afterwards
---     entering j t a                         the same, after the reader of a load answered a
+--     entering j t p a                       the same, after the reader of a load whose parts are p answered a
 -- Assumes nothing.
 use mathlib.Core.List.{List}
 use Prim.Native.Nat.{ℕ}
@@ -10,6 +10,8 @@ use Rattle.history.specs.Pass.{Outcome}
 use Rattle.history.specs.State.{State}
 use Rattle.image.specs.declared.ImageRead.{ImageRead}
 use Rattle.image.specs.declared.ImageRead.the-variants as read
+use Rattle.image.specs.declared.strip.Strip.{Strip}
+use Rattle.image.specs.Strip.{noCounts}
 use Rattle.job.specs.declared.Emptied.{Emptied}
 use Rattle.job.specs.declared.Loaded.{Loaded}
 use Rattle.job.specs.declared.Stepped.{Stepped}
@@ -25,10 +27,13 @@ abbrev pub loaded : Verdict → State → Loaded
 loaded v s = record { answer = v; job = s .job }
 
 -- what a load hands back after its reader
-abbrev pub entering : Job → Table → ImageRead → Loaded
-entering j t (read.Size w h) =
-    record { answer = Accepted; job = record { stage = 1; width = w; height = h; passes = 0; added = 0; removed = 0; table = t } }
-entering j t (read.Refused r) = record { answer = Refused r; job = j }
+abbrev pub entering : Job → Table → Strip → ImageRead → Loaded
+entering j t p (read.Size w h) =
+    record {
+      answer = Accepted;
+      job = record { stage = 1; width = w; height = h; passes = 0; added = 0; removed = 0; table = t; strip = p; counts = noCounts };
+    }
+entering j t p (read.Refused r) = record { answer = Refused r; job = j }
 
 abbrev pub stepped : Outcome → Stepped
 stepped o = record { answer = o .answer; job = o .state .job }

@@ -7,7 +7,7 @@ ghost use lib.IntN.{subℕ};
 ghost use lib.ListN.{length, take, drop};
 ghost use Rattle.operator.specs.Image;
 ghost use Rattle.history.specs.View;
-ghost use Rattle.image.specs.Size.{maxPixels};
+ghost use Rattle.image.specs.Strip.{maxStrip};
 ghost use Rattle.seq.specs.Lists.{all};
 
 const WHOLE: usize = 1000;
@@ -17,7 +17,7 @@ const BLOCK: usize = 64;
 
 // Thousandths of the pixels that are black: the nearest whole number, and of two the even one (02, T-05).
 pub(crate) fn cover(black: usize, pixels: usize) -> usize
-    requires { ⌜ (0 < pixels) × (black ≤ maxPixels) ⌝ }
+    requires { ⌜ (0 < pixels) × (black ≤ maxStrip) ⌝ }
     ensures { λ r. ⌜ r ≡ View.cover black pixels ⌝ }
 {
     let part = WHOLE * black;
@@ -62,7 +62,7 @@ fn black_in(bytes: &[u8], from: usize, count: usize) -> u8
 
 // The signed difference of two small counts.
 pub(crate) fn balance(added: usize, removed: usize) -> i64
-    requires { ⌜ added + removed ≤ maxPixels ⌝ }
+    requires { ⌜ added + removed ≤ maxStrip ⌝ }
     ensures { λ r. ⌜ r ≡ subℕ added removed ⌝ }
 {
     added as i64 - removed as i64

@@ -1,10 +1,12 @@
 // The calls on a job (01, The job). Each promise says the answer, the record and both areas afterwards. Each call checks the record with its areas
-// first (14), and a refused call alters nothing; a run that 14's pass clause stops keeps the passes before it. Both loads, pass, run and collect come
+// first (14), and a refused call alters nothing; a run that 14's pass clause stops keeps the passes before it. The loads, pass, run and collect come
 // in two forms: `.._core` takes the record by value and hands it back, and the form that 01 names is lent the record and writes it back.
 use history::Figured;
 use history::Job;
 use history::Passed;
 use image::ImageRead;
+use image::strip::MAX_PARTS;
+use image::strip::Strip;
 use table::Table;
 use verdict::Verdict;
 use verdict::Written;
@@ -16,14 +18,16 @@ ghost use Rattle.history.specs.Collect.{collectWritten, collectOutput, collectS
 ghost use Rattle.history.specs.Load.{admitRules, loadVerdict, loadState};
 ghost use Rattle.history.specs.Pass.{passOf};
 ghost use Rattle.history.specs.Run.{runOf};
-ghost use Rattle.history.specs.Source.{fromFile, fromThree};
+ghost use Rattle.history.specs.Source.{fromFile, fromThree, fromStrip};
 ghost use Rattle.history.specs.State.{emptyJob, readyVerdict};
 ghost use Rattle.history.specs.View.{viewOf, figuresOf};
 ghost use Rattle.job.specs.Core.{at, loaded, entering, stepped, emptied};
 ghost use Rattle.verdict.specs.Rules.{judge};
 
 mod area;
+mod cross;
 mod figure;
+mod parts;
 mod sound;
 mod step;
 
@@ -57,7 +61,8 @@ pub fn load_core(job: Job, table: Table, file: &[u8], first: &mut [u8], second: 
         };
     }
     let both = common(first, second);
-    enter(job, table, image::read(file, &mut first[..both]))
+    let read = image::read(file, &mut first[..both]);
+    enter(job, table, parts::whole(read), read)
 }
 
 pub fn load(job: &mut Job, table: Table, file: &[u8], first: &mut [u8], second: &[u8]) -> Verdict
@@ -93,11 +98,8 @@ pub fn load_three_core(
         };
     }
     let both = common(first, second);
-    enter(
-        job,
-        table,
-        image::majority::read(one, two, three, &mut first[..both]),
-    )
+    let read = image::majority::read(one, two, three, &mut first[..both]);
+    enter(job, table, parts::whole(read), read)
 }
 
 pub fn load_three(
@@ -119,6 +121,49 @@ pub fn load_three(
     s.answer
 }
 
+// Load of a strip (02, T-08), whose parts read as one image: 14, 15, table, 23, 10 for each part, 23, 11, 12, 13.
+pub fn load_strip_core(
+    job: Job,
+    table: Table,
+    strip: Strip,
+    pixels: &[u8],
+    first: &mut [u8],
+    second: &[u8],
+) -> Loaded
+    ensures { λ r. ⌜ (r ≡ loaded (loadVerdict table (fromStrip strip (now (pixels .entry))) (at job (now (first .entry)) (now (second .entry))))
+        (loadState table (fromStrip strip (now (pixels .entry))) (at job (now (first .entry)) (now (second .entry)))))
+        × (now (first .exit) ≡ loadState table (fromStrip strip (now (pixels .entry))) (at job (now (first .entry)) (now (second .entry))) .first)
+        × (loadState table (fromStrip strip (now (pixels .entry))) (at job (now (first .entry)) (now (second .entry))) .second ≡ now (second .entry)) ⌝ }
+{
+    if let Verdict::Refused(refusal) = admit(job, table, first, second) {
+        return Loaded {
+            answer: Verdict::Refused(refusal),
+            job,
+        };
+    }
+    let both = common(first, second);
+    let read = image::strip::read(strip, pixels, &mut first[..both]);
+    enter(job, table, parts::kept(strip), read)
+}
+
+pub fn load_strip(
+    job: &mut Job,
+    table: Table,
+    strip: Strip,
+    pixels: &[u8],
+    first: &mut [u8],
+    second: &[u8],
+) -> Verdict
+    ensures { λ r. ⌜ (r ≡ loadVerdict table (fromStrip strip (now (pixels .entry))) (at (now (job .entry)) (now (first .entry)) (now (second .entry))))
+        × (now (job .exit) ≡ loadState table (fromStrip strip (now (pixels .entry))) (at (now (job .entry)) (now (first .entry)) (now (second .entry))) .job)
+        × (now (first .exit) ≡ loadState table (fromStrip strip (now (pixels .entry))) (at (now (job .entry)) (now (first .entry)) (now (second .entry))) .first)
+        × (loadState table (fromStrip strip (now (pixels .entry))) (at (now (job .entry)) (now (first .entry)) (now (second .entry))) .second ≡ now (second .entry)) ⌝ }
+{
+    let s = load_strip_core(*job, table, strip, pixels, first, second);
+    *job = s.job;
+    s.answer
+}
+
 // What does not depend on the source of the image: 14, 15, table.
 fn admit<'a>(job: Job, table: Table, first: &'a [u8], second: &'a [u8]) -> Verdict
     ensures { λ r. ⌜ r ≡ judge (admitRules table (at job (now (first .entry)) (now (second .entry)))) ⌝ }
@@ -133,8 +178,8 @@ fn admit<'a>(job: Job, table: Table, first: &'a [u8], second: &'a [u8]) -> Verdi
 }
 
 // The record after the reader of a source, which has filled the area.
-fn enter(job: Job, table: Table, read: ImageRead) -> Loaded
-    ensures { λ r. ⌜ r ≡ entering job table read ⌝ }
+fn enter(job: Job, table: Table, strip: Strip, read: ImageRead) -> Loaded
+    ensures { λ r. ⌜ r ≡ entering job table strip read ⌝ }
 {
     match read {
         ImageRead::Size { width, height } => {
@@ -146,6 +191,8 @@ fn enter(job: Job, table: Table, read: ImageRead) -> Loaded
                 added: 0,
                 removed: 0,
                 table,
+                strip,
+                counts: parts::none(),
             };
             Loaded {
                 answer: Verdict::Accepted,
@@ -267,7 +314,7 @@ pub fn figures<'a>(job: Job, first: &'a [u8], second: &'a [u8]) -> Figured
     Figured::Figures { balance, cover }
 }
 
-// Collect: 14, 16, 17, 13; then the file in the output, and an empty record.
+// Collect: 14, 16, 17, 13; then the file of each part in the output, and an empty record.
 pub fn collect_core<'a>(job: Job, first: &'a [u8], second: &'a [u8], out: &mut [u8]) -> Emptied
     ensures { λ r. ⌜ (r ≡ emptied (collectWritten (length (now (out .entry))) (at job (now (first .entry)) (now (second .entry))))
         (collectState (length (now (out .entry))) (at job (now (first .entry)) (now (second .entry)))))
@@ -287,7 +334,8 @@ pub fn collect_core<'a>(job: Job, first: &'a [u8], second: &'a [u8], out: &mut [
             job,
         };
     }
-    let answer = image::write(job.width, job.height, area::image(job, first, second), out);
+    let strip = job.strip;
+    let answer = image::strip::write(strip, area::image(job, first, second), out);
     match answer {
         Written::Length(_) => Emptied {
             answer,
@@ -319,6 +367,11 @@ pub fn empty() -> Job
         ranks: 0,
         persistents: [0u32; table::MAX_RANKS],
     };
+    let strip = Strip {
+        parts: 0,
+        widths: [0usize; MAX_PARTS],
+        heights: [0usize; MAX_PARTS],
+    };
     Job {
         stage: sound::EMPTY,
         width: 0,
@@ -327,5 +380,7 @@ pub fn empty() -> Job
         added: 0,
         removed: 0,
         table,
+        strip,
+        counts: parts::none(),
     }
 }

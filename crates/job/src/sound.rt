@@ -1,5 +1,6 @@
 // When a job record is unsound with its areas (01: 14), and ready for a call (14, 16).
 use crate::area;
+use crate::parts;
 use history::Job;
 use verdict::Verdict;
 ghost use mathlib.Core.Bool.{not};
@@ -47,7 +48,7 @@ pub(crate) fn is_unsound<'a>(job: Job, first: &'a [u8], second: &'a [u8]) -> boo
 fn is_inconsistent<'a>(job: Job, first: &'a [u8], second: &'a [u8]) -> bool
     ensures { λ r. ⌜ r ≡ Rattle.history.specs.State.inconsistent (at job (now (first .entry)) (now (second .entry))) ⌝ }
 {
-    if image::size::is_bad(job.width, job.height) {
+    if parts::are_bad(job) {
         return true;
     }
     let table = job.table;
@@ -75,15 +76,19 @@ fn is_nonzero(job: Job) -> bool
     ensures { λ r. ⌜ r ≡ Rattle.history.specs.State.nonzero job ⌝ }
 {
     let table = job.table;
+    let strip = job.strip;
     let sizes = job.width | job.height | job.passes;
-    let counts = job.added | job.removed | table.count | table.ranks;
+    let counts = job.added | job.removed | table.count | table.ranks | strip.parts;
     if sizes | counts != 0 {
         return true;
     }
     if any_nonzero(&table.persistents) {
         return true;
     }
-    any_nonzero(&table.elements)
+    if any_nonzero(&table.elements) {
+        return true;
+    }
+    parts::any_past(job, 0)
 }
 
 fn any_nonzero(masks: &[u32]) -> bool

@@ -18,3 +18,5 @@ pub mod PreviewPlain
 pub mod Seen
 pub mod Locality
 pub mod Exact
+pub mod Bands
+pub mod PartCounts

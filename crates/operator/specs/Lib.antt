@@ -1,6 +1,7 @@
 pub mod Image
 pub mod Window
 pub mod Pass
+pub mod Parts
 pub mod Several
 pub mod Plain
 pub mod Preview

@@ -1,7 +1,9 @@
 -- The front of a list, and one element more: where a loop that reads a list from the front stands.
 --     any-append, all-append               the tests over two lists
+--     all-join                             a test over joined lists, list by list
 --     any-snoc, all-snoc                   one element more at a list's end
 --     any-front, all-front, count-front    the tests over the front of i + 1 elements
+--     sum-front                            their sum
 -- Assumes nothing.
 use mathlib.Core.Bool.{Bool, true, false, _&&_, _||_, or-false, and-true}
 use mathlib.Core.List.{List, [], _∷_, _++_}
@@ -11,8 +13,8 @@ use native.Mathlib.Numerals.{add-one}
 use native.Mathlib.Omega.{arith}
 use lib.ListN.{length, getD, take}
 use lib.Seq.{take-suc}
-use Rattle.seq.specs.Lists.{any, all, one, count}
-use Rattle.seq.proofs.Lists.{count-append}
+use Rattle.seq.specs.Lists.{any, all, one, count, sumOf, join}
+use Rattle.seq.proofs.Lists.{count-append, sumOf-append}
 
 module _ {ℓ} {A : Type ℓ} (p : A → Bool) where
   pub any-append : (l k : List A) → any p (l ++ k) ≡ (any p l || any p k)
@@ -30,6 +32,10 @@ module _ {ℓ} {A : Type ℓ} (p : A → Bool) where
       step : (b : Bool) → all p (l ++ k) ≡ (all p l && all p k) → (b && all p (l ++ k)) ≡ ((b && all p l) && all p k)
       step true e = e
       step false e = refl
+
+  pub all-join : (ls : List (List A)) → all p (join ls) ≡ all (all p) ls
+  all-join [] = refl
+  all-join (l ∷ ls) = all-append l (join ls) ∙ ap (λ (b : Bool). all p l && b) (all-join ls)
 
   pub any-snoc : (l : List A) (a : A) → any p (l ++ a ∷ []) ≡ (any p l || p a)
   any-snoc l a = any-append l (a ∷ []) ∙ ap (λ (b : Bool). any p l || b) (or-false (p a))
@@ -50,3 +56,6 @@ module _ {ℓ} {A : Type ℓ} (p : A → Bool) where
 
     pub count-front : count p (take (i + 1) l) ≡ count p (take i l) + one (p (getD l i d))
     count-front = ap (count p) front-more ∙ count-append p (take i l) (getD l i d ∷ []) ∙ omega arith
+
+pub sum-front : (l : List ℕ) (i : ℕ) → i < length l → sumOf (take (i + 1) l) ≡ sumOf (take i l) + getD l i 0
+sum-front l i h = rw add-one (ap sumOf (take-suc l i 0 h)) ∙ sumOf-append (take i l) (getD l i 0 ∷ []) ∙ omega arith

@@ -1,23 +1,27 @@
 -- Lists and tables, element by element.
 --     and-cong, not-some               truth values and options
 --     any-join, any-keep, any-false    `any` of a join, of what is kept, and where it fails
---     all-both, all-getD, all-tab      `all` of two tests together, at an element, and of a table
+--     all-both, all-getD, all-at       `all` of two tests together, and at an element
+--     all-tab                          of a table
 --     map-ext, getD-map, take-place    an image by elements, its element, and where an element of a part stands
---     count-tab                        counting over a table
+--     count-tab, count-add             counting over a table, and over the first m + n numbers
+--     drop-take                        what is left of a front behind a shorter one
 -- Assumes nothing.
 use mathlib.Core.Bool.{Bool, true, false, cond, _&&_, _||_}
 use mathlib.Core.List.{List, [], _∷_, map, List·Memᴰ, List·Memᴰ·head, List·Memᴰ·tail, List·Memᴰ·not-nil, List·Memᴰ·cases-cons}
 use mathlib.Core.Logic.{⊎-elim}
 use mathlib.Core.Option.{Option, none, some}
-use mathlib.Core.Path.{_≡_, refl, ap, ap₂, _∙_}
+use mathlib.Core.Path.{_≡_, refl, sym, ap, ap₂, _∙_}
 use Prim.Native.Nat.{ℕ, zero, suc, _+_, _<_}
-use native.Mathlib.Nat.{not-suc-le-zero, le-of-suc-le-suc}
+use native.Mathlib.Nat.{zero-add, suc-add, not-suc-le-zero, le-of-suc-le-suc}
 use native.Mathlib.Omega.{arith}
-use lib.ListN.{length, getD, take}
+use lib.ListN.{length, getD, take, drop}
+use lib.Seq.{take-nil}
 use Rattle.seq.specs.Lists.{any, all, keep, one, count, join, isSome}
 use Rattle.seq.specs.Tab.{tab, upTo}
 use Rattle.seq.proofs.Fronts.{any-append}
-use Rattle.seq.proofs.Lists.{clash, not-true-false, and-left, and-right, and-intro, any-intro}
+use Rattle.seq.proofs.Lists.{clash, not-true-false, and-left, and-right, and-intro, any-intro, count-append}
+use Rattle.seq.proofs.Stores.{tab-add}
 
 -- the second test counts only where the first holds
 pub and-cong : (a : Bool) {b b' : Bool} → (a ≡ true → b ≡ b') → (a && b) ≡ (a && b')
@@ -60,6 +64,11 @@ module _ {ℓ} {A : Type ℓ} where
   all-getD p (x ∷ l) d h e zero = and-left (p x) (all p l) h
   all-getD p (x ∷ l) d h e (suc i) = all-getD p l d (and-right (p x) (all p l) h) e i
 
+  pub all-at : (p : A → Bool) (l : List A) (d : A) → all p l ≡ true → (i : ℕ) → i < length l → p (getD l i d) ≡ true
+  all-at p [] d h i l = absurd (not-suc-le-zero l)
+  all-at p (x ∷ l) d h zero i = and-left (p x) (all p l) h
+  all-at p (x ∷ l) d h (suc i) b = all-at p l d (and-right (p x) (all p l) h) i (le-of-suc-le-suc b)
+
   pub all-tab : (p : A → Bool) (f : ℕ → A) (n : ℕ) → ((k : ℕ) → k < n → p (f k) ≡ true) → all p (tab f n) ≡ true
   all-tab p f zero h = refl
   all-tab p f (suc n) h = and-intro (h zero (omega arith)) (all-tab p (λ k. f (suc k)) n (λ k l. h (suc k) (omega arith)))
@@ -88,3 +97,15 @@ module _ {ℓ} {A : Type ℓ} where
   pub count-tab : (p : A → Bool) (f : ℕ → A) (n : ℕ) → count p (tab f n) ≡ count (λ i. p (f i)) (upTo n)
   unfolding upTo
   count-tab p f n = count-tab-of p f (λ k. k) n
+
+pub count-add : (p : ℕ → Bool) (m n : ℕ) → count p (upTo (m + n)) ≡ count p (upTo m) + count (λ i. p (m + i)) (upTo n)
+unfolding upTo
+count-add p m n =
+    ap (count p) (tab-add (λ k. k) m n)
+    ∙ count-append p (tab (λ k. k) m) (tab (λ k. m + k) n)
+    ∙ ap (λ (x : ℕ). count p (upTo m) + x) (count-tab p (λ k. m + k) n)
+
+pub drop-take {ℓ} : {A : Type ℓ} (n m : ℕ) (l : List A) → drop n (take (n + m) l) ≡ take m (drop n l)
+drop-take zero m l = ap (λ (k : ℕ). take k l) (zero-add m)
+drop-take (suc n) m [] = rw (suc-add n m) (sym (take-nil m))
+drop-take (suc n) m (x ∷ l) = rw (suc-add n m) (drop-take n m l)

@@ -2,6 +2,7 @@
 -- lies within d, since a store past the end alters nothing.
 --     sets-append        one run after the other is one run
 --     sets-front         a run from index 0 within d, and d behind it
+--     sets-part          a part of d that is put in whole
 --     sets-tab           one store more behind a table
 --     tab-add            a table in two parts
 --     Stored f d i l n   l is d with the elements of tab f n stored from index i on: where a loop that stores them one by one stands after n turns
@@ -14,8 +15,8 @@ use Prim.Native.Nat.{ℕ, zero, suc, _+_, _≤_, _<_, suc-le-suc}
 use native.Mathlib.Nat.{zero-add, add-zero, add-suc, suc-add}
 use native.Mathlib.Numerals.{add-one}
 use native.Mathlib.Omega.{arith}
-use lib.ListN.{length, drop, set}
-use lib.Seq.{sets, sets-eq, length-sets}
+use lib.ListN.{length, take, drop, set}
+use lib.Seq.{drop-drop, sets, sets-eq, length-sets}
 use Rattle.seq.specs.Tab.{tab, Filled}
 use Rattle.seq.proofs.Tab.{length-tab, tab-suc, tab-ext, fill-more}
 
@@ -29,6 +30,12 @@ module _ {ℓ} {A : Type ℓ} where
 
   pub sets-front : (vs d : List A) → length vs ≤ length d → sets d 0 vs ≡ vs ++ drop (length vs) d
   sets-front vs d h = sets-eq vs d 0 (omega arith) ∙ ap (λ (k : ℕ). vs ++ drop k d) (zero-add (length vs))
+
+  pub sets-part : (vs d : List A) (a k : ℕ) → length vs ≡ k → a + k ≤ length d → take a d ++ (vs ++ drop k (drop a d)) ≡ sets d a vs
+  sets-part vs d a k e h =
+      ap (λ (t : List A). take a d ++ (vs ++ t)) (drop-drop k a d ∙ ap (λ (n : ℕ). drop (a + n) d) (sym e))
+      ∙ sym (append-assoc (take a d) vs (drop (a + length vs) d))
+      ∙ sym (sets-eq vs d a (omega arith))
 
   -- one store more behind a table
   pub sets-tab : (d : List A) (i : ℕ) (f : ℕ → A) (n : ℕ) → set (sets d i (tab f n)) (i + n) (f n) ≡ sets d i (tab f (n + 1))

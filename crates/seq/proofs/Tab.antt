@@ -4,6 +4,7 @@
 --     upTo-test                                           a computed test holds at each number below a bound
 --     count-upTo                                          one number more is counted
 --     first-at, first-none, first-found, first-nothing    the lowest that passes; none passes; and what each answer says
+--     first-ext                                           by elements
 --     fill-none, fill-more, fill-length, fill-at, fill-whole     a loop's start, one store, the length, an element on the way, and its end
 -- Assumes nothing.
 use mathlib.Core.Bool.{Bool, true, false}
@@ -113,6 +114,11 @@ pub first-none : (p : ℕ → Bool) (n : ℕ) → ((k : ℕ) → k < n → p k �
 first-none p zero h = refl
 first-none p (suc n) h =
     ap₂ firstOr (h zero (suc-le-suc zero-le)) (first-none (λ k. p (suc k)) n (λ k l. h (suc k) (suc-le-suc l)))
+
+pub first-ext : (p q : ℕ → Bool) (n : ℕ) → ((k : ℕ) → k < n → p k ≡ q k) → first p n ≡ first q n
+first-ext p q zero h = refl
+first-ext p q (suc n) h =
+    ap₂ firstOr (h zero (suc-le-suc zero-le)) (first-ext (λ k. p (suc k)) (λ k. q (suc k)) n (λ k l. h (suc k) (suc-le-suc l)))
 
 pub first-at : (p : ℕ → Bool) (n i : ℕ) → i < n → ((k : ℕ) → k < i → p k ≡ false) → p i ≡ true → first p n ≡ some i
 first-at p zero i l h e = absurd (not-suc-le-zero l)

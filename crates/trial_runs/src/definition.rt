@@ -5,6 +5,7 @@ use crate::bytes::AREA;
 use crate::files;
 use crate::grid;
 use crate::grid::Size;
+use crate::parts;
 use crate::passes;
 use crate::sides;
 use crate::sides::Side;
@@ -43,6 +44,8 @@ pub(crate) fn load(table: Table, size: Size, first: [u8; AREA]) -> Side {
         added: 0,
         removed: 0,
         table,
+        strip: parts::whole(size),
+        counts: parts::counts(0, 0),
     };
     sides::with_areas(job, first, bytes::filled(sides::SECOND), 0)
 }
@@ -63,6 +66,7 @@ pub(crate) fn pass(side: Side) -> Side {
     job.passes = bytes::more(job.passes, 1);
     job.added = bytes::more(job.added, added);
     job.removed = bytes::more(job.removed, removed);
+    job.counts = parts::counts(job.added, job.removed);
     sides::with_areas(job, next, before, CHANGED)
 }
 

@@ -2,6 +2,7 @@
 use crate::bytes;
 use crate::definition;
 use crate::library;
+use crate::parts;
 use crate::report;
 use crate::report::Tally;
 use crate::sides;
@@ -84,7 +85,7 @@ fn differ_jobs(a: Job, b: Job) -> usize {
     let sizes = (a.width ^ b.width) | (a.height ^ b.height);
     let counts = (a.passes ^ b.passes) | (a.added ^ b.added) | (a.removed ^ b.removed);
     let stages = a.stage as usize ^ b.stage as usize;
-    sizes | counts | stages | differ_tables(a.table, b.table)
+    sizes | counts | stages | differ_tables(a.table, b.table) | parts::differ(a, b)
 }
 
 fn differ_tables(a: Table, b: Table) -> usize {

@@ -8,6 +8,7 @@ mod grid;
 mod images;
 mod jobs;
 mod library;
+mod parts;
 mod passes;
 mod report;
 mod sides;

@@ -2,6 +2,7 @@
 use crate::bytes;
 use crate::bytes::AREA;
 use crate::grid::Size;
+use crate::parts;
 use history::Job;
 use table::Table;
 
@@ -65,6 +66,8 @@ pub(crate) fn empty() -> Job {
         added: 0,
         removed: 0,
         table,
+        strip: parts::none(),
+        counts: parts::counts(0, 0),
     }
 }
 

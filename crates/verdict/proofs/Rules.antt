@@ -5,13 +5,17 @@
 --     accepted-judge    a list of rules that all accept
 --     refuseIf-accepted, refuseBy-accepted, refuseAt-accepted    what a rule that accepts says of its test, of its search
 --     refuseAt-map      a place that is worked out before or after
+--     search-found, search-none    what a loop that searches from 0 on answers, the places counted from 1
 -- Assumes nothing.
 use mathlib.Core.Bool.{Bool, true, false}
 use mathlib.Core.List.{List, [], _∷_, _++_, List·Memᴰ, List·Memᴰ·head, List·Memᴰ·tail}
 use mathlib.Core.Option.{Option, none, some, Option·map}
 use mathlib.Core.Path.{_≡_, refl, sym, ap, _∙_}
-use Prim.Native.Nat.{ℕ}
+use Prim.Native.Nat.{ℕ, suc, _+_, _≤_, _<_}
+use native.Mathlib.Numerals.{add-one}
 use native.Mathlib.Omega.{arith}
+use Rattle.seq.specs.Tab.{first}
+use Rattle.seq.proofs.Search.{Passed, passed-found, passed-all}
 use Rattle.verdict.specs.declared.Refusal.{Refusal}
 use Rattle.verdict.specs.declared.Verdict.{Verdict}
 use Rattle.verdict.specs.declared.Verdict.the-variants.{Accepted, Refused}
@@ -73,3 +77,10 @@ refuseAt-accepted o n at = refuseBy-accepted o (λ k. refusal n (at k))
 pub refuseAt-map : (o : Option ℕ) (n : ℕ) (at : ℕ → ℕ) → refuseAt o n at ≡ refuseAt (Option·map at o) n (λ k. k)
 refuseAt-map none n at = refl
 refuseAt-map (some k) n at = refl
+
+module _ {p : ℕ → Bool} {n k : ℕ} (number : ℕ) (s : Passed p n k) where
+  pub search-found : k < n → p k ≡ true → Refused (refusal number (k + 1)) ≡ refuseAt (first p n) number suc
+  search-found l e = rw add-one (ap (λ (o : Option ℕ). refuseAt o number suc) (passed-found s l e))
+
+  pub search-none : n ≤ k → Accepted ≡ refuseAt (first p n) number suc
+  search-none l = ap (λ (o : Option ℕ). refuseAt o number suc) (passed-all s l)

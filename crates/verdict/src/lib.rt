@@ -87,4 +87,6 @@ pub const NOT_STABLE: u32 = 17;
 
 pub const RANK_COUNT: u32 = 18;
 
+pub const PARTS: u32 = 23;
+
 pub const SIZES_DIFFER: u32 = 26;

@@ -1,9 +1,9 @@
 //! Times of the library beside the Rust versions of this crate, as Markdown. `--small`: a small case, each once.
 
-use mask_cleaner::cases::{named_tables, random_table, Kind, Random};
+use mask_cleaner::cases::{self, named_tables, random_table, Kind, Random};
 use mask_cleaner::fast::Filter;
 use mask_cleaner::library;
-use mask_cleaner::record::{JobRecord, TableRecord, MAX_RANKS, PLACES};
+use mask_cleaner::record::{JobRecord, StripRecord, TableRecord, MAX_PARTS, MAX_RANKS, PLACES};
 use mask_cleaner::reference::image::{file_of, Image};
 use mask_cleaner::reference::pass::one_pass;
 use mask_cleaner::reference::table::MAX_MASK;
@@ -48,13 +48,36 @@ fn main() {
     for (name, table) in named_tables() {
         for (kind_name, kind) in KINDS {
             let image = kind.image(plan.side, plan.side, &mut Random::new(1));
-            let case = Case { table, image };
+            let case = Case {
+                table,
+                image,
+                parts: 1,
+            };
             case.print_pass(&format!("{name}, {kind_name}"), &plan);
             case.print_run(&format!("{name}, {kind_name}"), &plan);
         }
     }
+    print_strips(&plan);
     println!();
     print_check(&plan);
+}
+
+/// The largest strip.
+fn print_strips(plan: &Plan) {
+    let (width, rows) = (plan.side, MAX_PARTS * plan.side);
+    for (name, table, kind) in [
+        ("ring, noise", cases::ring(), Kind::Noise),
+        ("median, worn stripes", cases::median(), Kind::Worn),
+    ] {
+        let case = Case {
+            table,
+            image: kind.image(width, rows, &mut Random::new(1)),
+            parts: MAX_PARTS,
+        };
+        let name = format!("{name}, strip of {width} × {rows}");
+        case.print_pass(&name, plan);
+        case.print_run(&name, plan);
+    }
 }
 
 fn explain(plan: &Plan) {
@@ -71,6 +94,7 @@ const NOTES: &str = "
 - library: one call of `mask_pass` or `mask_run`. It checks the record first: table, sizes and every pixel.
 - Rust: `fast::Filter`, the making of its lists of offsets included, without any check.
 - by definition: `reference::pass::one_pass`, once.
+- strip: 16 parts, each as large as an image, and passes over all of them.
 
 | table, image | call | passes | library | Rust | library / Rust | by definition |
 |---|---|---:|---:|---:|---:|---:|";
@@ -78,6 +102,8 @@ const NOTES: &str = "
 struct Case {
     table: TableRecord,
     image: Image,
+    /// 1, or those of a strip.
+    parts: usize,
 }
 
 impl Case {
@@ -123,15 +149,21 @@ impl Case {
             first: vec![0; pixels],
             second: vec![0; pixels],
         };
-        let file = file_of(&self.image);
-        library::load(
-            &mut job.record,
-            &self.table,
-            &file,
-            &mut job.first,
-            &job.second,
-        )
-        .expect("an accepted load");
+        let Loaded {
+            record,
+            first,
+            second,
+        } = &mut job;
+        let loaded = if self.parts == 1 {
+            let file = file_of(&self.image);
+            library::load(record, &self.table, &file, first, second)
+        } else {
+            let heights = vec![self.image.height / self.parts; self.parts];
+            let strip = StripRecord::new(self.image.width, &heights);
+            let pixels = &self.image.pixels;
+            library::load_strip(record, &self.table, &strip, pixels, first, second)
+        };
+        loaded.expect("an accepted load");
         job
     }
 }

@@ -143,6 +143,11 @@ pub fn fill(area: &mut [u8], bytes: &[u8]) -> Result<(), Refusal> {
 /// The rules for given pixel bytes: 10, 11, 12.
 pub fn check(width: usize, height: usize, pixels: &[u8]) -> Result<Image, Refusal> {
     check_size(width, height)?;
+    check_pixels(width, height, pixels)
+}
+
+/// 11 and 12, for a size that was accepted.
+pub fn check_pixels(width: usize, height: usize, pixels: &[u8]) -> Result<Image, Refusal> {
     if pixels.len() != width * height {
         return Err(Refusal::of(Reason::Raster));
     }

@@ -1,10 +1,11 @@
-//! 01, "The job": load, load of three files, pass, run, view, figures, collect on a record and two areas.
+//! 01, "The job": load, load of three files and of a strip, pass, run, view, figures, collect on a record and two areas.
 
 use super::image::{self, Image};
+use super::strip::{self, Strip};
 use super::{pass as rule, table};
 use crate::record::{
-    Figures, JobRecord, Progress, Reason, Refusal, TableRecord, STAGE_EMPTY, STAGE_LOADED,
-    STAGE_STABLE,
+    Figures, JobRecord, Progress, Reason, Refusal, StripRecord, TableRecord, MAX_PARTS,
+    STAGE_EMPTY, STAGE_LOADED, STAGE_STABLE,
 };
 
 /// The area that holds the present image: the first when passes is even.
@@ -22,6 +23,11 @@ fn present(record: &JobRecord, first: &[u8], second: &[u8]) -> Image {
     Image::new(record.width, record.height, &area[..pixels(record)])
 }
 
+/// The heights of a sound record's parts.
+fn heights(record: &JobRecord) -> &[usize] {
+    &record.strip.heights[..record.strip.parts]
+}
+
 /// Rule 14, without its clause on passes.
 fn check_sound(record: &JobRecord, first: &[u8], second: &[u8]) -> Result<(), Refusal> {
     let sound = match record.stage {
@@ -33,7 +39,7 @@ fn check_sound(record: &JobRecord, first: &[u8], second: &[u8]) -> Result<(), Re
 }
 
 fn is_sound_loaded(record: &JobRecord, first: &[u8], second: &[u8]) -> bool {
-    if image::check_size(record.width, record.height).is_err() {
+    if !has_sound_parts(record) {
         return false;
     }
     let pixels = pixels(record);
@@ -47,9 +53,33 @@ fn is_sound_loaded(record: &JobRecord, first: &[u8], second: &[u8]) -> bool {
         && changed(record) <= pixels as u128
 }
 
-/// Added + removed as a number, whatever the record says.
+/// What 14 asks of the parts (T-08): they are as a load accepts them, have the record's width, and sum to its height, added
+/// and removed; past them is nothing.
+fn has_sound_parts(record: &JobRecord) -> bool {
+    let JobRecord { strip, counts, .. } = record;
+    let Ok((width, heights)) = strip::check_parts(strip) else {
+        return false;
+    };
+    let nothing_past = |places: &[usize; MAX_PARTS]| places[strip.parts..].iter().all(|n| *n == 0);
+    let sums_to = |numbers: &[usize], total: usize| sum(numbers) == total as u128;
+    width == record.width
+        && sums_to(&heights, record.height)
+        && nothing_past(&strip.widths)
+        && nothing_past(&strip.heights)
+        && nothing_past(&counts.added)
+        && nothing_past(&counts.removed)
+        && sums_to(&counts.added, record.added)
+        && sums_to(&counts.removed, record.removed)
+}
+
+/// A sum as a number, whatever the record says.
+fn sum(numbers: &[usize]) -> u128 {
+    numbers.iter().map(|n| *n as u128).sum()
+}
+
+/// Added + removed, likewise.
 fn changed(record: &JobRecord) -> u128 {
-    record.added as u128 + record.removed as u128
+    sum(&[record.added, record.removed])
 }
 
 fn refuse_unless(condition: bool, reason: Reason) -> Result<(), Refusal> {
@@ -74,7 +104,8 @@ pub fn load(
     first: &mut [u8],
     second: &[u8],
 ) -> Result<(), Refusal> {
-    load_image(record, table, image::parse(file), first, second)
+    let image = image::parse(file).map(Strip::single);
+    load_image(record, table, image, first, second)
 }
 
 /// A load of the majority of three (T-12).
@@ -85,30 +116,37 @@ pub fn load_three(
     first: &mut [u8],
     second: &[u8],
 ) -> Result<(), Refusal> {
-    load_image(record, table, image::parse_three(files), first, second)
+    let image = image::parse_three(files).map(Strip::single);
+    load_image(record, table, image, first, second)
+}
+
+/// A load of a strip (T-08).
+pub fn load_strip(
+    record: &mut JobRecord,
+    table: &TableRecord,
+    strip: &StripRecord,
+    pixels: &[u8],
+    first: &mut [u8],
+    second: &[u8],
+) -> Result<(), Refusal> {
+    load_image(record, table, strip::check(strip, pixels), first, second)
 }
 
 /// 14, 15, table, what the image was refused by, 13. The second area stays as it is.
 fn load_image(
     record: &mut JobRecord,
     table: &TableRecord,
-    image: Result<Image, Refusal>,
+    image: Result<Strip, Refusal>,
     first: &mut [u8],
     second: &[u8],
 ) -> Result<(), Refusal> {
     check_sound(record, first, second)?;
     refuse_unless(record.stage == STAGE_EMPTY, Reason::NotCollected)?;
     table::check(table)?;
-    let image = image?;
+    let Strip { image, heights } = image?;
     refuse_unless(second.len() >= image.pixels.len(), Reason::Short)?;
     image::fill(first, &image.pixels)?;
-    *record = JobRecord {
-        stage: STAGE_LOADED,
-        width: image.width,
-        height: image.height,
-        table: *table,
-        ..JobRecord::EMPTY
-    };
+    *record = JobRecord::loaded(table, image.width, &heights);
     Ok(())
 }
 
@@ -145,7 +183,19 @@ pub fn pass(
     record.passes += 1;
     record.added += added;
     record.removed += removed;
+    count_parts(record, &before, &after);
     Ok(Progress::Changed)
+}
+
+/// Adds to each part what its own rows gained and lost.
+fn count_parts(record: &mut JobRecord, before: &Image, after: &Image) {
+    let befores = strip::parts_of(before, heights(record));
+    let afters = strip::parts_of(after, heights(record));
+    for (i, (before, after)) in befores.iter().zip(&afters).enumerate() {
+        let (added, removed) = rule::changes(before, after);
+        record.counts.added[i] += added;
+        record.counts.removed[i] += removed;
+    }
 }
 
 /// Passes until one answers "at rest"; one that is refused ends it, and those before it stay.
@@ -186,7 +236,7 @@ fn cover(black: usize, pixels: usize) -> usize {
         .expect("there are thousandths")
 }
 
-/// 14, 16, 17, 13; writes the file and empties the record.
+/// 14, 16, 17, 13; writes the files of the parts and empties the record.
 pub fn collect(
     record: &mut JobRecord,
     first: &[u8],
@@ -195,8 +245,8 @@ pub fn collect(
 ) -> Result<usize, Refusal> {
     check_loaded(record, first, second)?;
     refuse_unless(record.stage == STAGE_STABLE, Reason::NotStable)?;
-    let file = image::file_of(&present(record, first, second));
-    image::fill(out, &file)?;
+    let files = strip::files_of(&present(record, first, second), heights(record));
+    image::fill(out, &files)?;
     *record = JobRecord::EMPTY;
-    Ok(file.len())
+    Ok(files.len())
 }

@@ -47,13 +47,13 @@ pub fn compare(
             break;
         }
     }
-    let stable = state.clone();
-    finish(&mut state, image, random);
+    let (stable, files) = (state.clone(), file_of(image).len());
+    finish(&mut state, files, random);
     if image.pixels.len() <= RUN_PIXELS {
         assert_eq!(state.apply_both(&load, &mut []), Ok(Answer::Loaded));
         assert_eq!(state.apply_both(&Call::Run, &mut []), Ok(STABLE));
         assert_eq!(state, stable, "a run ends as its passes called singly");
-        finish(&mut state, image, random);
+        finish(&mut state, files, random);
     }
 }
 
@@ -81,7 +81,7 @@ pub fn compare_runs(
             counts.jobs += 1;
         }
     }
-    finish(&mut state, image, random);
+    finish(&mut state, file_of(image).len(), random);
     passes
 }
 
@@ -122,7 +122,7 @@ fn loaded(image: &Image, load: &Call, random: &mut Random) -> State {
 }
 
 /// A pass; whether it changed something.
-fn pass(state: &mut State, counts: &mut Counts) -> bool {
+pub fn pass(state: &mut State, counts: &mut Counts) -> bool {
     let answer = state.apply_both(&Call::Pass, &mut []);
     counts.passes += 1;
     if answer == Ok(STABLE) {
@@ -148,14 +148,14 @@ pub fn scramble(state: &mut State, random: &mut Random) {
     other[..record.width * record.height].fill_with(|| random.byte());
 }
 
-/// View and figures; then collect, which is refused while the image is not stable.
-fn finish(state: &mut State, image: &Image, random: &mut Random) {
+/// View and figures; then collect, of files of so many bytes, which is refused while the image is not stable.
+pub fn finish(state: &mut State, files: usize, random: &mut Random) {
     let stable = state.record.stage == STAGE_STABLE;
     for call in [Call::View, Call::Figures] {
         let answer = state.apply_both(&call, &mut []);
         assert!(answer.is_ok());
     }
-    let out_length = file_of(image).len() + random.below(9);
+    let out_length = files + random.below(9);
     let mut out = random.output(out_length);
     let answer = state.apply_both(&Call::Collect { out_length }, &mut out);
     assert_eq!(answer.is_ok(), stable);

@@ -1,25 +1,38 @@
 //! What the tests share: a loaded job, a job's state under the library or the reference, what lists of calls are made of, and a tally of answers.
 #![allow(dead_code)]
 
-use mask_cleaner::cases::{random_image, random_table, Random};
+use mask_cleaner::cases::{random_cut, random_image, random_table, Random};
 use mask_cleaner::job::{Job, Table};
 use mask_cleaner::model::{Answer, Call};
 use mask_cleaner::record::{
-    JobRecord, Reason, Refusal, TableRecord, MAX_RANKS, PLACES, STAGE_LOADED,
+    JobRecord, Reason, Refusal, StripRecord, TableRecord, MAX_PARTS, MAX_RANKS, MAX_SIDE, PLACES,
 };
 use mask_cleaner::reference::image::{file_of, Image};
 use mask_cleaner::{library, reference};
 use std::collections::BTreeMap;
+use std::fmt;
 use std::io::Write;
 use std::ops::RangeInclusive;
 use std::slice::ChunksExactMut;
 
 pub mod compare;
+pub mod strips;
 pub mod tables;
 
 /// Prints a line past the capture of the test runner.
 pub fn report(line: &str) {
     writeln!(std::io::stdout(), "    {line}").expect("standard output takes a line");
+}
+
+/// The bytes are those that are expected; else the first place where they are not.
+pub fn assert_same(name: &str, bytes: &[u8], expected: &[u8], context: impl fmt::Debug) {
+    assert_eq!(bytes.len(), expected.len(), "{name}: {context:?}");
+    if bytes != expected {
+        let place = (0..bytes.len()).find(|i| bytes[*i] != expected[*i]);
+        let i = place.expect("a place");
+        let (is, must) = (bytes[i], expected[i]);
+        panic!("{name}: byte {i} is {is}, not {must}: {context:?}");
+    }
 }
 
 /// A job of the library with the image loaded.
@@ -38,6 +51,15 @@ pub fn loaded_three(table: &Table, images: &[Image; 3]) -> Job {
     job
 }
 
+/// A job of the library with the image loaded as a strip of parts of these heights.
+pub fn loaded_strip(table: &Table, image: &Image, heights: &[usize]) -> Job {
+    let mut job = Job::for_pixels(image.pixels.len());
+    let strip = StripRecord::new(image.width, heights);
+    let loaded = job.load_strip(table, &strip, &image.pixels);
+    loaded.expect("an accepted load");
+    job
+}
+
 pub fn slices(files: &[Vec<u8>; 3]) -> [&[u8]; 3] {
     files.each_ref().map(Vec::as_slice)
 }
@@ -48,11 +70,33 @@ pub fn view(job: &Job) -> &[u8] {
 }
 
 /// A job's record and areas.
-#[derive(Clone, Debug, PartialEq, Eq)]
+#[derive(Clone, PartialEq, Eq)]
 pub struct State {
     pub record: JobRecord,
     pub first: Vec<u8>,
     pub second: Vec<u8>,
+}
+
+/// Bytes, or only how many where they are too many to read.
+struct Shown<'a>(&'a [u8]);
+
+impl fmt::Debug for Shown<'_> {
+    fn fmt(&self, f: &mut fmt::Formatter<'_>) -> fmt::Result {
+        match self.0.len() {
+            0..=4096 => write!(f, "{:?}", self.0),
+            length => write!(f, "{length} bytes"),
+        }
+    }
+}
+
+impl fmt::Debug for State {
+    fn fmt(&self, f: &mut fmt::Formatter<'_>) -> fmt::Result {
+        f.debug_struct("State")
+            .field("record", &self.record)
+            .field("first", &Shown(&self.first))
+            .field("second", &Shown(&self.second))
+            .finish()
+    }
 }
 
 #[derive(Clone, Copy, Debug)]
@@ -72,10 +116,20 @@ impl State {
 
     /// A loaded image after so many passes: in the area that their parity names, a few bytes behind it, and any bytes in the other area.
     pub fn holding(image: &Image, table: TableRecord, passes: usize, random: &mut Random) -> State {
-        let Image { width, height, .. } = *image;
+        State::holding_strip(image, &[image.height], table, passes, random)
+    }
+
+    /// The same with an image in parts.
+    pub fn holding_strip(
+        image: &Image,
+        heights: &[usize],
+        table: TableRecord,
+        passes: usize,
+        random: &mut Random,
+    ) -> State {
         let (mut present, behind) = (image.pixels.clone(), random.below(4));
         present.extend(random.bytes(behind));
-        let other = random.below(4) + width * height;
+        let other = random.below(4) + image.pixels.len();
         let other = random.bytes(other);
         let (first, second) = if passes % 2 == 1 {
             (other, present)
@@ -83,18 +137,22 @@ impl State {
             (present, other)
         };
         let record = JobRecord {
-            stage: STAGE_LOADED,
-            width,
-            height,
             passes,
-            table,
-            ..JobRecord::EMPTY
+            ..JobRecord::loaded(&table, image.width, heights)
         };
         State {
             record,
             first,
             second,
         }
+    }
+
+    /// Sets added and removed, and shares them among the parts.
+    pub fn set_changed(&mut self, added: usize, removed: usize, random: &mut Random) {
+        let record = &mut self.record;
+        (record.added, record.removed) = (added, removed);
+        record.counts.added = shares(added, record.strip.parts, random);
+        record.counts.removed = shares(removed, record.strip.parts, random);
     }
 
     pub fn areas(&self) -> [usize; 2] {
@@ -123,6 +181,12 @@ impl State {
                 library::load_three(record, table, slices(files), first, second)
                     .map(|()| Answer::Loaded)
             }
+            Call::LoadStrip {
+                table,
+                strip,
+                pixels,
+            } => library::load_strip(record, table, strip, pixels, first, second)
+                .map(|()| Answer::Loaded),
             Call::Pass => library::pass(record, first, second).map(Answer::Progress),
             Call::Run => library::run(record, first, second).map(Answer::Progress),
             Call::View => library::view(record, first, second).map(|p| Answer::Pixels(p.to_vec())),
@@ -147,6 +211,12 @@ impl State {
                 job::load_three(record, table, slices(files), first, second)
                     .map(|()| Answer::Loaded)
             }
+            Call::LoadStrip {
+                table,
+                strip,
+                pixels,
+            } => job::load_strip(record, table, strip, pixels, first, second)
+                .map(|()| Answer::Loaded),
             Call::Pass => job::pass(record, first, second).map(Answer::Progress),
             Call::Run => job::run(record, first, second).map(Answer::Progress),
             Call::View => job::view(record, first, second).map(|p| Answer::Pixels(p.to_vec())),
@@ -164,8 +234,10 @@ impl State {
         let answer = self.apply(Side::Library, call, out);
         let expected = other.apply(Side::Reference, call, &mut other_out);
         assert_eq!(answer, expected, "{call:?} on {before:?}");
-        assert_eq!(*self, other, "{call:?} on {before:?}");
-        assert_eq!(out, other_out, "{call:?} on {before:?}");
+        assert_eq!(self.record, other.record, "{call:?} on {before:?}");
+        assert_same("first area", &self.first, &other.first, (call, &before));
+        assert_same("second area", &self.second, &other.second, (call, &before));
+        assert_same("output", out, &other_out, (call, &before));
         if matches!(call, Call::View) {
             self.assert_same_part();
         }
@@ -185,16 +257,37 @@ impl State {
     }
 }
 
-/// What a list of calls draws its arguments from: accepted tables and files, and damaged ones.
+/// Numbers for so many parts that sum to the total, and zeros past them. Often all of it is at one part.
+pub fn shares(total: usize, parts: usize, random: &mut Random) -> [usize; MAX_PARTS] {
+    let (mut shares, mut left) = ([0; MAX_PARTS], total);
+    for share in &mut shares[..parts - 1] {
+        *share = match random.below(3) {
+            0 => 0,
+            1 => left,
+            _ => (random.number() % (left as u64).saturating_add(1)) as usize,
+        };
+        left -= *share;
+    }
+    shares[parts - 1] = left;
+    let turn = random.below(parts);
+    shares[..parts].rotate_left(turn);
+    shares
+}
+
+/// A strip, and the pixel bytes of its parts.
+type StripBytes = (StripRecord, Vec<u8>);
+
+/// What a list of calls draws its arguments from: accepted tables, files and strips, and damaged ones.
 pub struct Stock {
     tables: Vec<TableRecord>,
     files: Vec<Vec<u8>>,
     /// Accepted ones of one size.
     alike: Vec<Vec<u8>>,
+    strips: Vec<StripBytes>,
 }
 
 impl Stock {
-    /// Images with sides up to the longest.
+    /// Images and strips with sides up to the longest.
     pub fn new(random: &mut Random, longest: usize) -> Stock {
         let mut tables: Vec<TableRecord> = (0..3).map(|_| random_table(random, 12)).collect();
         let mut files: Vec<Vec<u8>> = Vec::new();
@@ -210,15 +303,20 @@ impl Stock {
         }
         tables.push(table);
         files.push(damaged_file(files[0].clone(), random));
+        let mut strips: Vec<StripBytes> = (0..3).map(|_| random_strip(longest, random)).collect();
+        for _ in 0..2 {
+            strips.push(damaged_strip(random.choose(&strips[..3]).clone(), random));
+        }
         Stock {
             tables,
             files,
             alike,
+            strips,
         }
     }
 
     pub fn call(&self, random: &mut Random) -> Call {
-        match random.below(20) {
+        match random.below(23) {
             0..=2 => Call::Load {
                 table: *random.choose(&self.tables),
                 file: random.choose(&self.files).clone(),
@@ -227,13 +325,23 @@ impl Stock {
                 table: *random.choose(&self.tables),
                 files: [(); 3].map(|()| self.one_of_three(random)),
             },
-            5..=11 => Call::Pass,
-            12 | 13 => Call::Run,
-            14 | 15 => Call::View,
-            16 => Call::Figures,
+            5..=7 => self.load_strip(random),
+            8..=14 => Call::Pass,
+            15 | 16 => Call::Run,
+            17 | 18 => Call::View,
+            19 => Call::Figures,
             _ => Call::Collect {
-                out_length: *random.choose(&[0, 7, 8, 9, 30, 60, 60, 60]),
+                out_length: *random.choose(&[0, 7, 8, 9, 30, 60, 60, 180, 180]),
             },
+        }
+    }
+
+    fn load_strip(&self, random: &mut Random) -> Call {
+        let (strip, pixels) = random.choose(&self.strips).clone();
+        Call::LoadStrip {
+            table: *random.choose(&self.tables),
+            strip,
+            pixels,
         }
     }
 
@@ -255,6 +363,43 @@ fn random_file(width: usize, height: usize, random: &mut Random) -> Vec<u8> {
         fill_unused(&mut file, width, height, random);
     }
     file
+}
+
+/// An accepted strip, with anything past its parts.
+fn random_strip(longest: usize, random: &mut Random) -> StripBytes {
+    let (width, rows) = (1 + random.below(longest), 1 + random.below(longest));
+    let mut strip = StripRecord::new(width, &random_cut(rows, random));
+    litter(&mut strip, random);
+    (strip, random_image(width, rows, random).pixels)
+}
+
+/// Puts anything past the parts: zeros, sides that a part may have, and others.
+pub fn litter(strip: &mut StripRecord, random: &mut Random) {
+    let past = strip.parts.min(MAX_PARTS);
+    let widths = strip.widths[past..].iter_mut();
+    for place in widths.chain(&mut strip.heights[past..]) {
+        let side = 1 + random.below(MAX_SIDE);
+        *place = *random.choose(&[0, side, 257, usize::MAX]);
+    }
+}
+
+/// One to three damages, some of which leave it accepted.
+fn damaged_strip((mut strip, mut pixels): StripBytes, random: &mut Random) -> StripBytes {
+    for _ in 0..1 + random.below(3) {
+        let part = random.below(strip.parts.clamp(1, MAX_PARTS));
+        let place = random.below(pixels.len() + 1);
+        match random.below(8) {
+            0 => strip.parts = *random.choose(&[0, 17, 18, usize::MAX]),
+            1 => strip.parts = 1 + random.below(MAX_PARTS),
+            2 => strip.widths[part] = 1 + random.below(9),
+            3 => strip.widths[part] = *random.choose(&[0, 257, usize::MAX]),
+            4 => strip.heights[part] = *random.choose(&[0, 257, usize::MAX]),
+            5 => pixels.truncate(place),
+            6 => pixels.insert(place, 1),
+            _ => pixels.iter_mut().skip(place).take(1).for_each(|p| *p += 2),
+        }
+    }
+    (strip, pixels)
 }
 
 fn damaged_table(mut table: TableRecord, random: &mut Random) -> TableRecord {

@@ -3,7 +3,7 @@
 use super::State;
 use mask_cleaner::library;
 use mask_cleaner::model::{Book, Call};
-use mask_cleaner::record::{Refusal, TableRecord};
+use mask_cleaner::record::{Refusal, StripRecord, TableRecord};
 use mask_cleaner::reference::table as reference;
 
 /// Both checks of a record.
@@ -32,12 +32,18 @@ pub fn write(table: &TableRecord, out: &mut [u8]) -> Result<usize, Refusal> {
     answer
 }
 
-/// A load of one pixel for which there is room, of one file and of three; the answers must agree.
+/// A load of one pixel for which there is room, of one file, of three and of a strip; the answers must agree.
 pub fn load(table: &TableRecord) -> Result<(), Refusal> {
     let (table, file) = (*table, b"P4\n1 1\n\x80".to_vec());
     let files = [(); 3].map(|()| file.clone());
+    let strip = Call::LoadStrip {
+        table,
+        strip: StripRecord::new(1, &[1]),
+        pixels: vec![1],
+    };
     let answer = load_by(&Call::Load { table, file });
     assert_eq!(load_by(&Call::LoadThree { table, files }), answer);
+    assert_eq!(load_by(&strip), answer);
     answer
 }
 

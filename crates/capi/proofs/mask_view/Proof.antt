@@ -5,8 +5,7 @@ use borrow.Author.Needs.{needs}
 use Rattle.capi.proofs.PartLaws.{part-refused, part-accepted}
 use Rattle.capi.proofs.mask_view.Statement.{statement}
 use Rattle.capi.proofs.mask_view.Tie as tie
-use Rattle.history.proofs.Ready.{accepted-ready}
-use Rattle.job.proofs.Concluded.{ready-small}
+use Rattle.history.proofs.Ready.{accepted-ready, ready-small}
 
 view-verdict-requires : tie.Need-view-verdict-requires
 view-verdict-requires c κs = search needs

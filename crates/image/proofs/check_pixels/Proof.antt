@@ -4,8 +4,8 @@ use mathlib.Core.Path.{_≡_, sym, _∙_}
 use native.Mathlib.Omega.{arith}
 use borrow.Author.Needs.{needs}
 use Rattle.image.specs.Size.{badSize}
-use Rattle.image.proofs.PixelsOf.{pixels-size, pixels-count, pixels-values}
-use Rattle.image.proofs.RowBytes.{pixels-few, sides}
+use Rattle.image.proofs.PixelsOf.{pixels-size, pixels-bytes}
+use Rattle.image.proofs.RowBytes.{sides}
 use Rattle.image.proofs.check_pixels.Statement.{statement}
 use Rattle.image.proofs.check_pixels.Tie as tie
 
@@ -21,20 +21,11 @@ refused-requires c κs = search needs
 returns : tie.Need-returns
 returns c = c .refused .ensures ∙ sym (pixels-size _ _ _ (sym (c .before .before .is-bad .ensures) ∙ c .before .if1 .taken))
 
-mul-if2 : tie.Need-mul-if2
-mul-if2 c = omega (arith, pixels-few (sides _ _ (good-size c)))
-
-refused-requires-2 : tie.Need-refused-requires-2
-refused-requires-2 c κs = search needs
+check-bytes-requires : tie.Need-check-bytes-requires
+check-bytes-requires c κs = let s = sides _ _ (good-size c) in (s .wide, s .narrow, omega (arith, s .short))
 
 returns-2 : tie.Need-returns-2
-returns-2 c = c .refused2 .ensures ∙ sym (pixels-count _ _ _ (good-size (c .before .before)) (c .before .if2 .taken))
-
-check-values-requires : tie.Need-check-values-requires
-check-values-requires c κs = (sides _ _ (good-size (c .before)), c .if2 .left)
-
-returns-3 : tie.Need-returns-3
-returns-3 c = sym (pixels-values _ _ _ (good-size (c .before .before)) (c .before .if2 .left) (c .check-values .ensures))
+returns-2 c = c .check-bytes .ensures ∙ sym (pixels-bytes _ _ _ (good-size (c .before)))
 
 pub check-pixels-spec : {M : Type 1} → statement M
 check-pixels-spec =
@@ -43,8 +34,5 @@ check-pixels-spec =
     is-bad-requires
     refused-requires
     returns
-    mul-if2
-    refused-requires-2
-    returns-2
-    check-values-requires
-    returns-3)
+    check-bytes-requires
+    returns-2)

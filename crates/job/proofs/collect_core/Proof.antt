@@ -30,7 +30,7 @@ returns-2 c =
 
 image-requires : tie.Need-image-requires
 image-requires c κs =
-    let told = c .before .before in
+    let told = c .before .before .before in
     let ready = accepted-ready _ (sym (told .before .before .ready .ensures) ∙ told .enum-told .given .1) in
     (ready .first, ready .second)
 
@@ -53,9 +53,9 @@ returns-3 : tie.Need-returns-3
 returns-3 c =
     let write = c .before .before .before .before .before in
     let image = write .before .before in
-    let test = image .before in
+    let test = image .before .before in
     let told = test .before .before in
-    let done = same-pixels _ _ _ (image .image .ensures) (write .write .ensures) in
+    let done = same-pixels _ _ (image .image .ensures) (write .write .ensures) in
     written _ _ (sym (told .before .before .ready .ensures) ∙ told .enum-told .given .1) (test .if1 .left)
     (done .0) (done .1) (c .before .enum-told2 .given .1) (c .empty .ensures)
 
@@ -66,9 +66,9 @@ returns-4 : tie.Need-returns-4
 returns-4 c =
     let write = c .before .before .before .before in
     let image = write .before .before in
-    let test = image .before in
+    let test = image .before .before in
     let told = test .before .before in
-    let done = same-pixels _ _ _ (image .image .ensures) (write .write .ensures) in
+    let done = same-pixels _ _ (image .image .ensures) (write .write .ensures) in
     unwritten _ _ (sym (told .before .before .ready .ensures) ∙ told .enum-told .given .1) (test .if1 .left)
     (done .0) (done .1) (c .enum-told3 .given .1)
 

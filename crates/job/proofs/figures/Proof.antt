@@ -4,8 +4,7 @@ use mathlib.Core.Path.{sym, _∙_}
 use native.Mathlib.Omega.{arith}
 use borrow.Author.Needs.{needs}
 use Rattle.job.proofs.Balance.{balance-stored}
-use Rattle.history.proofs.Ready.{accepted-ready, ready-image, ready-some}
-use Rattle.job.proofs.Concluded.{ready-small}
+use Rattle.history.proofs.Ready.{accepted-ready, ready-image, ready-small, ready-some}
 use Rattle.job.proofs.Views.{figures-refused, figures-shown, black-of, few-black}
 use Rattle.job.proofs.figures.Statement.{statement}
 use Rattle.job.proofs.figures.Tie as tie

@@ -1,9 +1,9 @@
 -- `job::load_three_core`: as `load_core`, with the reader of three files. Assumes nothing.
-use mathlib.Core.Path.{sym, _∙_}
+use mathlib.Core.Path.{refl, sym, _∙_}
 use borrow.Author.Needs.{needs}
 use Rattle.history.specs.Source.{fromThree}
 use Rattle.job.proofs.Areas.{part-length}
-use Rattle.job.proofs.Loads.{not-admitted, entered}
+use Rattle.job.proofs.Loads.{not-admitted, single-parts, entered}
 use Rattle.job.proofs.load_three_core.Statement.{statement}
 use Rattle.job.proofs.load_three_core.Tie as tie
 
@@ -34,6 +34,9 @@ slice-aggregate-read c = part-length _ _ (slice-relend-prefix-read (c .before))
 read-requires : tie.Need-read-requires
 read-requires c κs = tt
 
+whole-requires : tie.Need-whole-requires
+whole-requires c κs = tt
+
 enter-requires : tie.Need-enter-requires
 enter-requires c κs = tt
 
@@ -42,11 +45,12 @@ same-length-2 c = search needs
 
 returns-2 : tie.Need-returns-2
 returns-2 c =
-    let read = c .before .before .before in
+    let whole = c .before in
+    let read = whole .before .before .before in
     let both = read .before .before in
     let told = both .before .before in
     entered _ (fromThree _ _ _) _ (sym (told .before .before .admit .ensures) ∙ told .enum-told .given .1) (both .common .ensures)
-    (read .read .ensures .0) (read .read .ensures .1) (c .enter .ensures)
+    (read .read .ensures .0) (read .read .ensures .1) (single-parts (fromThree _ _ _) _ refl (read .read .ensures .0) (whole .whole .ensures)) (c .enter .ensures)
 
 pub load-three-core-spec : {M : Type 1} → statement M
 load-three-core-spec =
@@ -61,6 +65,7 @@ load-three-core-spec =
     slice-relend-prefix-read
     slice-aggregate-read
     read-requires
+    whole-requires
     enter-requires
     same-length-2
     returns-2)

@@ -4,8 +4,7 @@ use mathlib.Core.Path.{refl, sym, _∙_}
 use native.Mathlib.Omega.{arith}
 use borrow.Author.Needs.{needs}
 use Rattle.history.proofs.Runs.{run-refused}
-use Rattle.history.proofs.Ready.{accepted-ready}
-use Rattle.job.proofs.Concluded.{ready-small}
+use Rattle.history.proofs.Ready.{accepted-ready, ready-small}
 use Rattle.job.proofs.Runs.{run-stable, made-run}
 use Rattle.job.proofs.run_core.Statement.{statement}
 use Rattle.job.proofs.run_core.Tie as tie

@@ -13,6 +13,9 @@ add-after-2 c = search needs
 add-after-3 : tie.Need-add-after-3
 add-after-3 c = search needs
 
+summed-requires : tie.Need-summed-requires
+summed-requires c κs = search needs
+
 enum-told : tie.Need-enum-told
 enum-told c = search needs
 
@@ -29,16 +32,16 @@ enum-known-end : tie.Need-enum-known-end
 enum-known-end c = search needs
 
 returns : tie.Need-returns
-returns c = rw (c .enum-told .given .1)
+returns c = rw (c .enum-told .given .1, c .before .before .summed .ensures)
 
 returns-2 : tie.Need-returns-2
-returns-2 c = rw (c .enum-told2 .given .1)
+returns-2 c = rw (c .enum-told2 .given .1, c .before .before .summed .ensures)
 
 returns-3 : tie.Need-returns-3
-returns-3 c = rw (c .before .enum-told3 .given .1, c .refusal-of .ensures)
+returns-3 c = rw (c .before .enum-told3 .given .1, c .refusal-of .ensures, c .before .before .before .summed .ensures)
 
 returns-4 : tie.Need-returns-4
-returns-4 c = rw (c .before .end .given .1)
+returns-4 c = rw (c .before .end .given .1, c .before .before .before .summed .ensures)
 
 pub conclude-spec : {M : Type 1} → statement M
 conclude-spec =
@@ -47,6 +50,7 @@ conclude-spec =
     add-after
     add-after-2
     add-after-3
+    summed-requires
     enum-told
     enum-told-2
     enum-told-3
