@@ -2,7 +2,8 @@
 --     near-at                                 a shift of the list is at most the farthest
 --     fourAt l i                              the four elements from index i on
 --     front-four                              four elements more at the front of a list
---     erode-none, erode-four, erode-all       the erosion: by no shift, by four shifts more, by all
+--     erode-empty, erode-first                the erosion by the first four shifts: where there are none, and where there are
+--     erode-four, erode-all                   by four shifts more, by all
 --     dilate-none, dilate-four, dilate-all    the same for the dilation
 -- Assumes nothing.
 use mathlib.Core.Bool.{Bool, true, false, _&&_, _||_, and-assoc, and-true, or-assoc, or-false}
@@ -21,7 +22,7 @@ use Rattle.seq.proofs.Bits.{bit-and, bit-or}
 use Rattle.seq.proofs.Fronts.{any-append, all-append}
 use Rattle.seq.proofs.Tab.{upTo-test}
 use Rattle.filter.specs.Code.Opening.{farthest}
-use Rattle.filter.specs.Code.Sweep.{Fours, met4, joined4, Eroded, Dilated}
+use Rattle.filter.specs.Code.Sweep.{Fours, allOf4, met4, joined4, Eroded, Dilated}
 use Rattle.filter.proofs.ShiftLaws.{mem-getD}
 
 pub near-at : {at : List ℕ} → Fours at → (i : ℕ) → i < length at → getD at i 0 ≤ farthest
@@ -50,28 +51,45 @@ bit-met : (x a b c d s : ℕ)
     → bit (bitAnd (bitAnd x (bitAnd a b)) (bitAnd c d)) s ≡ (bit x s && (bit a s && (bit b s && (bit c s && (bit d s && true)))))
 bit-met x a b c d s = simp (bit-and, and-assoc, and-true)
 
+bit-all : (a b c d s : ℕ) → bit (bitAnd (bitAnd a b) (bitAnd c d)) s ≡ (bit a s && (bit b s && (bit c s && (bit d s && true))))
+bit-all a b c d s = simp (bit-and, and-assoc, and-true)
+
 bit-joined : (x a b c d s : ℕ)
     → bit (bitOr (bitOr x (bitOr a b)) (bitOr c d)) s ≡ (bit x s || (bit a s || (bit b s || (bit c s || (bit d s || false)))))
 bit-joined x a b c d s = simp (bit-or, or-assoc, or-false)
 
-pub erode-none : (start n : ℕ) (l : List ℕ) {d e : List ℕ} → Swept (λ j. 255) d e 0 (0 + n) → Eroded [] start n l e
+erode-none : (start n : ℕ) (l : List ℕ) {d e : List ℕ} → Swept (λ j. 255) d e 0 (0 + n) → Eroded [] start n l e
 erode-none start n l w = record { coded = λ j s p q. rw (w .inner j (omega arith) (omega arith)) (full s q) }
 
 pub dilate-none : (n : ℕ) (e d : List ℕ) → Dilated [] n e d d
 dilate-none n e d = record { long = refl; coded = λ j s p q h. sym (or-false (bit (getD d j 0) s)) }
 
+pub erode-empty : (at : List ℕ) (start n : ℕ) (l : List ℕ) {d e : List ℕ} → length at ≡ 0 → Swept (λ j. 255) d e 0 (0 + n) → Eroded (take 4 at) start n l e
+erode-empty [] start n l h w = erode-none start n l w
+erode-empty (a ∷ at) start n l h w = absurd (omega arith)
+
 module _ (at : List ℕ) (start n : ℕ) (l : List ℕ) where
+  -- what byte j looks at by the shift a
+  abbrev seen : ℕ → ℕ → ℕ → Bool
+  seen j s a = bit (getD l (start + j + a) 0) s
+
+  place : (j a : ℕ) → start + a + j ≡ start + j + a
+  place j a = omega arith
+
+  pub erode-first : {d f : List ℕ} → 3 < length at
+      → Swept (allOf4 l (start + getD at 0 0) (start + getD at 1 0) (start + getD at 2 0) (start + getD at 3 0)) d f 0 n → Eroded (take 4 at) start n l f
+  erode-first {d} {f} h w = record { coded = coded }
+    where
+      coded : (j s : ℕ) → j < n → s < 8 → bit (getD f j 0) s ≡ all (seen j s) (take 4 at)
+      coded j s p q =
+          rw (w .inner j (omega arith) p, place j (getD at 0 0), place j (getD at 1 0), place j (getD at 2 0), place j (getD at 3 0), front-four at 0 h)
+          (bit-all _ _ _ _ s)
+
   pub erode-four : {e f : List ℕ} (i : ℕ) → Eroded (take i at) start n l e → i + 3 < length at
       → Swept (met4 l (start + getD at i 0) (start + getD at (i + 1) 0) (start + getD at (i + 2) 0) (start + getD at (i + 3) 0) e) e f 0 n
       → Eroded (take (i + 4) at) start n l f
   erode-four {e} {f} i c h w = record { coded = coded }
     where
-      seen : ℕ → ℕ → ℕ → Bool
-      seen j s a = bit (getD l (start + j + a) 0) s
-
-      place : (j a : ℕ) → start + a + j ≡ start + j + a
-      place j a = omega arith
-
       met : (j s : ℕ) → j < n → bit (getD f j 0) s ≡ (bit (getD e j 0) s && all (seen j s) (fourAt at i))
       met j s p =
           rw (w .inner j (omega arith) p, place j (getD at i 0), place j (getD at (i + 1) 0), place j (getD at (i + 2) 0), place j (getD at (i + 3) 0))

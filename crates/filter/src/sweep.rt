@@ -5,7 +5,7 @@ ghost use mathlib.Core.Path.{_≡_};
 ghost use Prim.Native.Nat.{_+_, _≤_, _<_};
 ghost use lib.ListN.{length, take};
 ghost use Rattle.filter.specs.Code.Opening.{shift, farthest, Shifts};
-ghost use Rattle.filter.specs.Code.Sweep.{Fours, Padded, Reach, met4, joined4, Eroded, Dilated};
+ghost use Rattle.filter.specs.Code.Sweep.{Fours, Padded, Reach, allOf4, met4, joined4, Eroded, Dilated};
 ghost use Rattle.seq.specs.Bits.{bit};
 ghost use Rattle.seq.specs.Loops.{Swept};
 ghost use Rattle.table.specs.Mask.{positionCount};
@@ -66,8 +66,8 @@ pub(crate) fn erode(at: &[usize], start: usize, count: usize, source: &[u8], out
     requires { ⌜ Fours (now at) × (start + count + farthest ≤ length (now source)) × (count ≤ length (now out)) ⌝ }
     ensures { λ r. ⌜ Eroded (now (at .entry)) start count (now (source .entry)) (now (out .exit)) ⌝ }
 {
-    plane::fill(out, 0, count, 255);
-    let mut i = 0;
+    first4(at, start, count, source, out);
+    let mut i = 4;
     while i < at.len() {
         let a = start + at[i];
         let b = start + at[i + 1];
@@ -75,6 +75,31 @@ pub(crate) fn erode(at: &[usize], start: usize, count: usize, source: &[u8], out
         let d = start + at[i + 3];
         meet4(source, a, b, c, d, out, count);
         i += 4;
+    }
+}
+
+// By the first four shifts; without a shift, all bits.
+fn first4(at: &[usize], start: usize, count: usize, source: &[u8], out: &mut [u8])
+    requires { ⌜ Fours (now at) × (start + count + farthest ≤ length (now source)) × (count ≤ length (now out)) ⌝ }
+    ensures { λ r. ⌜ Eroded (take 4 (now (at .entry))) start count (now (source .entry)) (now (out .exit)) × (length (now (out .exit)) ≡ length (now (out .entry))) ⌝ }
+{
+    if at.len() == 0 {
+        plane::fill(out, 0, count, 255);
+    } else {
+        let a = start + at[0];
+        let b = start + at[1];
+        let c = start + at[2];
+        let d = start + at[3];
+        all4(source, a, b, c, d, out, count);
+    }
+}
+
+fn all4(source: &[u8], a: usize, b: usize, c: usize, d: usize, out: &mut [u8], count: usize)
+    requires { ⌜ Reach (now source) a b c d count × (count ≤ length (now out)) ⌝ }
+    ensures { λ r. ⌜ Swept (allOf4 (now (source .entry)) a b c d) (now (out .entry)) (now (out .exit)) 0 count ⌝ }
+{
+    for k in 0..count {
+        out[k] = (source[a + k] & source[b + k]) & (source[c + k] & source[d + k]);
     }
 }
 

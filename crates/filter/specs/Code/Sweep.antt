@@ -2,6 +2,7 @@
 --     Fours at                      shifts in fours, none above the farthest
 --     Padded d l n m                l is d with the last of its first n numbers again, up to the index m, a multiple of four
 --     Reach l a b c d n             n bytes of l stand behind each of the four places
+--     allOf4 l a b c d j            the bytes j behind the four places of l, by `and`
 --     met4 l a b c d o j            byte j of o and the bytes j behind the four places of l, by `and`
 --     joined4 l a b c d o j         byte j of o and the bytes j − 4 behind the four places of l, by `or`
 --     Eroded at start n l e         byte j < n of e has bit s where the bytes start + j + a of l have it for every shift a
@@ -35,6 +36,9 @@ pub record Reach (l : List ℕ) (a b c d n : ℕ) : Type 0 where
   pub second : b + n ≤ length l
   pub third : c + n ≤ length l
   pub fourth : d + n ≤ length l
+
+abbrev pub allOf4 : List ℕ → ℕ → ℕ → ℕ → ℕ → ℕ → ℕ
+allOf4 l a b c d j = bitAnd (bitAnd (getD l (a + j) 0) (getD l (b + j) 0)) (bitAnd (getD l (c + j) 0) (getD l (d + j) 0))
 
 abbrev pub met4 : List ℕ → ℕ → ℕ → ℕ → ℕ → List ℕ → ℕ → ℕ
 met4 l a b c d o j = bitAnd (bitAnd (getD o j 0) (bitAnd (getD l (a + j) 0) (getD l (b + j) 0))) (bitAnd (getD l (c + j) 0) (getD l (d + j) 0))

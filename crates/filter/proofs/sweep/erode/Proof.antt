@@ -7,7 +7,7 @@ use borrow.Author.Needs.{needs}
 use lib.ListN.{length, getD, take}
 use Rattle.filter.specs.Code.Opening.{farthest}
 use Rattle.filter.specs.Code.Sweep.{Eroded}
-use Rattle.filter.proofs.SweepLaws.{near-at, erode-none, erode-four, erode-all}
+use Rattle.filter.proofs.SweepLaws.{near-at, erode-four, erode-all}
 use Rattle.filter.proofs.sweep.erode.Statement.{statement}
 use Rattle.filter.proofs.sweep.erode.Tie as tie
 
@@ -32,11 +32,11 @@ entry c = let read = c .before .before .before in read .before .before
 near : (c : tie.In-loop Inv-loop μ-loop) (k : ℕ) → k < c .before .loop .i + 4 → getD (begin c .args .at .now) k 0 ≤ farthest
 near c k h = near-at (begin c .pre .0) k (omega arith)
 
-fill-requires : tie.Need-fill-requires Inv-loop μ-loop
-fill-requires c κs = search needs
+first4-requires : tie.Need-first4-requires Inv-loop μ-loop
+first4-requires c κs = search needs
 
 loop-holds : tie.Need-loop-holds Inv-loop μ-loop
-loop-holds c = (erode-none _ _ _ (c .before .before .fill .ensures), refl, refl)
+loop-holds c = (c .before .before .first4 .ensures .0, refl, refl)
 
 mul-a : tie.Need-mul-a Inv-loop μ-loop
 mul-a c = search needs
@@ -124,7 +124,7 @@ erode-spec =
     (tie.spec
     Inv-loop
     μ-loop
-    fill-requires
+    first4-requires
     loop-holds
     mul-a
     shared-slice-read-a
