@@ -3,6 +3,7 @@
 --     admitted, next-is           the filter admits a ready record's strip, and makes the job's next image
 --     room-changing, room-quiet   there is no room exactly where 14's pass clause holds
 --     Places j                    the record has 16 places for counts
+--     by-room                     answer and area where the room that was handed on is the job's
 --     record-is, to-second, to-first     answer and record, and the areas
 --     Crosses s px there c x      the filter's answer c and the area x, from the image px to the area there
 --     crossing-fits               the record's counts with that pass do not wrap
@@ -27,6 +28,7 @@ use Rattle.history.specs.Sound.{Ready}
 use Rattle.history.specs.State.{State, pixels, even, image}
 use Rattle.history.proofs.Areas.{next-job}
 use Rattle.history.proofs.Ready.{ready-parts, ready-small, ready-image, ready-next, ready-writable}
+use Rattle.image.specs.declared.strip.Strip.{Strip}
 use Rattle.image.specs.Strip.{maxParts, maxStrip, heightsOf, stripWidth, stripHeight, noCounts}
 use Rattle.image.proofs.Shapes.{padded-whole, padded-tab, shape-count}
 use Rattle.job.specs.Code.Passes.{after, concluded, Fit, roomOf, passesOf, doneOn, Made}
@@ -45,6 +47,7 @@ use Rattle.seq.proofs.Tab.{tab-ext, getD-tab}
 use Rattle.seq.proofs.Tests.{or-none-left}
 use Rattle.seq.specs.Lists.{sumOf}
 use Rattle.seq.specs.Tab.{tab}
+use Rattle.table.specs.declared.Table.{Table}
 use Rattle.verdict.specs.declared.Verdict.the-variants.{Accepted}
 use Rattle.verdict.specs.Rules.{refusal}
 use Rattle.verdict.specs.Writer.{over}
@@ -66,6 +69,12 @@ counts-none {j} o = ap₂ (λ (a d : List ℕ). record { added = a; removed = d 
 -- a count of 16 is at most their sum
 part-few : (f : ℕ → ℕ) {n : ℕ} → sumOf (tab f maxParts) ≡ n → (i : ℕ) → i < maxParts → getD (tab f maxParts) i 0 ≤ n
 part-few f e i l = omega (arith, place-few (tab f maxParts) i l, ap sumOf (padded-tab f), e)
+
+-- the filter's answer and the area, by a number that is the room
+pub by-room : (t : Table) (p : Strip) (px there : List ℕ) {n room : ℕ} {c : Crossed} {x : List ℕ} → n ≡ room
+    → (c ≡ crossed t p n px (length there)) × (x ≡ crossedArea t p n px there)
+    → (c ≡ crossed t p room px (length there)) × (x ≡ crossedArea t p room px there)
+by-room t p px there e f = (f .0 ∙ ap (λ k. crossed t p k px (length there)) e, f .1 ∙ ap (λ k. crossedArea t p k px there) e)
 
 module _ {s : State} (r : Ready s) (h : s .job .stage ≡ 2 → ⊥) (o : Places (s .job)) where
   abbrev job : Job

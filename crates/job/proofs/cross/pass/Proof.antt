@@ -6,7 +6,7 @@ use lib.ListN.{length}
 use Rattle.history.proofs.Ready.{ready-small}
 use Rattle.image.specs.Strip.{maxParts}
 use Rattle.job.proofs.Areas.{part-length, image-even, image-odd}
-use Rattle.job.proofs.Crossings.{Places, crossing-fits, crossed-even, crossed-odd}
+use Rattle.job.proofs.Crossings.{Places, by-room, crossing-fits, crossed-even, crossed-odd}
 use Rattle.job.proofs.cross.pass.Statement.{statement}
 use Rattle.job.proofs.cross.pass.Tie as tie
 
@@ -50,7 +50,7 @@ conclude-requires c κs =
     let test = made .before .before .before in
     let room = test .before .before in
     let begin = start room in
-    crossing-fits (begin .pre .0) (begin .pre .1) (places begin) _ (begin .pre .0 .second) (image-even _ (test .if1 .taken)) (rw (room .room-of .ensures) at (made .pass .ensures)) (c .done .ensures)
+    crossing-fits (begin .pre .0) (begin .pre .1) (places begin) _ (begin .pre .0 .second) (image-even _ (test .if1 .taken)) (by-room _ _ _ _ (room .room-of .ensures) (made .pass .ensures)) (c .done .ensures)
 
 slice-reshare-prefix-pass-2 : tie.Need-slice-reshare-prefix-pass-2
 slice-reshare-prefix-pass-2 c = search needs
@@ -70,7 +70,7 @@ conclude-requires-2 c κs =
     let test = made .before .before .before in
     let room = test .before .before in
     let begin = start room in
-    crossing-fits (begin .pre .0) (begin .pre .1) (places begin) _ (begin .pre .0 .first) (image-odd _ (test .if1 .left)) (rw (room .room-of .ensures) at (made .pass2 .ensures)) (c .done2 .ensures)
+    crossing-fits (begin .pre .0) (begin .pre .1) (places begin) _ (begin .pre .0 .first) (image-odd _ (test .if1 .left)) (by-room _ _ _ _ (room .room-of .ensures) (made .pass2 .ensures)) (c .done2 .ensures)
 
 same-length : tie.Need-same-length
 same-length c = search needs
@@ -86,7 +86,7 @@ returns c =
     let room = test .before .before in
     let begin = start room in
     crossed-even (begin .pre .0) (begin .pre .1) (places begin) (done .done .ensures) (c .conclude .ensures) (test .if1 .taken) (image-even _ (test .if1 .taken))
-    (rw (room .room-of .ensures) at (made .pass .ensures))
+    (by-room _ _ _ _ (room .room-of .ensures) (made .pass .ensures))
 
 same-length-3 : tie.Need-same-length-3
 same-length-3 c = search needs
@@ -102,7 +102,7 @@ returns-2 c =
     let room = test .before .before in
     let begin = start room in
     crossed-odd (begin .pre .0) (begin .pre .1) (places begin) (done .done2 .ensures) (c .conclude2 .ensures) (test .if1 .left) (image-odd _ (test .if1 .left))
-    (rw (room .room-of .ensures) at (made .pass2 .ensures))
+    (by-room _ _ _ _ (room .room-of .ensures) (made .pass2 .ensures))
 
 pub pass-spec : {M : Type 1} → statement M
 pass-spec =
