@@ -1,4 +1,5 @@
 // What differs between pixels and those that they become.
+use crate::turn;
 use crate::turn::Changes;
 ghost use mathlib.Core.Bool.{_&&_};
 ghost use mathlib.Core.Path.{_≡_};
@@ -48,8 +49,8 @@ fn tally_block(old: &[u8], from: usize, new: &[u8], at: usize, count: usize) -> 
         k += 1;
     }
     Changes {
-        added: wide(more),
-        removed: wide(less),
+        added: turn::wide(more),
+        removed: turn::wide(less),
     }
 }
 
@@ -58,10 +59,4 @@ fn turns(a: u8, b: u8, source: u8, target: u8) -> u8
     ensures { λ r. ⌜ (r ≡ one (eqb a source && eqb b target)) × (r ≤ 1) ⌝ }
 {
     if a == source && b == target { 1 } else { 0 }
-}
-
-fn wide(x: u8) -> usize
-    ensures { λ r. ⌜ r ≡ x ⌝ }
-{
-    x as usize
 }

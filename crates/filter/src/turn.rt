@@ -73,8 +73,8 @@ fn tally(flips: &[u8], from: usize) -> Changes
         less = less + ones(f);
     }
     Changes {
-        added: small(more),
-        removed: small(less),
+        added: wide(more),
+        removed: wide(less),
     }
 }
 
@@ -87,7 +87,7 @@ fn ones(f: u8) -> u8
     (b & 15) + (b >> 4)
 }
 
-fn small(x: u8) -> usize
+pub(crate) fn wide(x: u8) -> usize
     ensures { λ r. ⌜ r ≡ x ⌝ }
 {
     x as usize

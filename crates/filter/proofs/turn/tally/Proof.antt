@@ -58,17 +58,17 @@ loop-again c =
       omega (arith, tallied-more 0 (a .flips .now) (a .from) (l .loop .k)),
     )
 
-small-requires : tie.Need-small-requires Inv-loop μ-loop
-small-requires c κs = search needs
+wide-requires : tie.Need-wide-requires Inv-loop μ-loop
+wide-requires c κs = search needs
 
-small-requires-2 : tie.Need-small-requires-2 Inv-loop μ-loop
-small-requires-2 c κs = search needs
+wide-requires-2 : tie.Need-wide-requires-2 Inv-loop μ-loop
+wide-requires-2 c κs = search needs
 
 returns : tie.Need-returns Inv-loop μ-loop
 returns c =
     let l = c .before .before .before in
     let e : l .loop .k ≡ 32 = omega arith in
-    (c .before .small .ensures ∙ l .loop .inv .1 ∙ rw e, c .small2 .ensures ∙ l .loop .inv .2 ∙ rw e)
+    (c .before .wide .ensures ∙ l .loop .inv .1 ∙ rw e, c .wide2 .ensures ∙ l .loop .inv .2 ∙ rw e)
 
 pub tally-spec : {M : Type 1} → statement M
 tally-spec =
@@ -86,6 +86,6 @@ tally-spec =
     add-k
     loop-less
     loop-again
-    small-requires
-    small-requires-2
+    wide-requires
+    wide-requires-2
     returns)
