@@ -17,7 +17,7 @@ ghost use mathlib.Core.Path.{_≡_};
 ghost use Prim.Native.Nat.{ℕ, _+_, _*_, _≤_, _<_};
 ghost use lib.ListN.{length, take};
 ghost use Rattle.filter.specs.Code.Candidate.{Parts};
-ghost use Rattle.filter.specs.Code.Plane.{step, rim};
+ghost use Rattle.filter.specs.Code.Plane.{band, step, rim};
 ghost use Rattle.filter.specs.Code.Run;
 ghost use Rattle.filter.specs.Code.Run.{trailOf, Running, RunRoom, Followed, Put, Settled, wayOf, Acted, Within, Went};
 ghost use Rattle.filter.specs.Repeated.{Trail, begin};
@@ -44,7 +44,7 @@ pub(crate) struct Turn {
     removed: usize,
 }
 
-// From the image at the front of `first`.
+// From the image at the front of `first`, with a plane and flips for as many rows.
 pub(crate) fn run(
     elements: &[u32],
     persistents: &[u32],
@@ -59,17 +59,64 @@ pub(crate) fn run(
     ensures { λ r. ⌜ Followed (now (elements .entry)) (now (persistents .entry)) width height budget (begin (now (first .entry)) (now (second .entry))) r
         (now (first .exit)) (now (second .exit)) ⌝ }
 {
+    if height <= rows::BLOCK {
+        let mut plane = scratch::low_plane();
+        let mut flips = scratch::low_flips();
+        start(
+            elements,
+            persistents,
+            width,
+            height,
+            budget,
+            &mut plane,
+            &mut flips,
+            first,
+            second,
+        )
+    } else {
+        let mut plane = scratch::plane();
+        let mut flips = scratch::flips();
+        start(
+            elements,
+            persistents,
+            width,
+            height,
+            budget,
+            &mut plane,
+            &mut flips,
+            first,
+            second,
+        )
+    }
+}
+
+// The image becomes a plane, and every row is to be judged and to be written.
+fn start(
+    elements: &[u32],
+    persistents: &[u32],
+    width: usize,
+    height: usize,
+    budget: Budget,
+    plane: &mut [u8],
+    flips: &mut [u8],
+    first: &mut [u8],
+    second: &mut [u8],
+) -> Repeated
+    requires { ⌜ (all validMask (now elements) ≡ true) × (length (now elements) ≤ maxElements) × IsImage width height (take (width * height) (now first))
+        × (width ≤ maxSide) × (height ≤ maxSide) × (width * height ≤ length (now first)) × (width * height ≤ length (now second))
+        × (step * (height + 2 * rim) ≤ length (now plane)) × (band * height ≤ length (now flips)) ⌝ }
+    ensures { λ r. ⌜ Followed (now (elements .entry)) (now (persistents .entry)) width height budget (begin (now (first .entry)) (now (second .entry))) r
+        (now (first .exit)) (now (second .exit)) ⌝ }
+{
     let mut parts = [0usize; PARTS];
     let tests = candidate::parts_of(elements, &mut parts);
-    let mut plane = scratch::plane();
     let mut solid = scratch::solid();
     let mut map = scratch::map();
-    let mut flips = scratch::flips();
     let mut changed = scratch::marks();
     let mut dirty = scratch::all_rows();
     let mut stale = scratch::all_rows();
     let pixels = width * height;
-    plane::pack(&first[..pixels], width, height, &mut plane);
+    plane::pack(&first[..pixels], width, height, plane);
     repeat(
         elements,
         persistents,
@@ -77,10 +124,10 @@ pub(crate) fn run(
         width,
         height,
         budget,
-        &mut plane,
+        plane,
         &mut solid,
         &mut map,
-        &mut flips,
+        flips,
         &mut changed,
         &mut dirty,
         &mut stale,

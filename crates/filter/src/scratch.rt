@@ -1,9 +1,10 @@
-// The memory that passes work in, for the largest image. Each by a call, so that a proof knows its length only.
+// The memory that passes work in, for the largest image and for one of a block's rows. Each by a call, so that a proof knows its length only.
 use crate::blocks::MAP;
 use crate::blocks::SOLID;
 use crate::plane::BAND;
 use crate::plane::RIM;
 use crate::plane::STEP;
+use crate::rows::BLOCK;
 use image::size::MAX_SIDE;
 ghost use Prim.Native.Nat.{ℕ, _<_};
 ghost use mathlib.Core.Path.{_≡_};
@@ -17,12 +18,25 @@ pub(crate) const PLANE: usize = ROWS * STEP;
 
 pub(crate) const FLIPS: usize = MAX_SIDE * BAND;
 
+// The same for an image of no more rows than a block, which need not clear so much.
+pub(crate) const LOW_PLANE: usize = (BLOCK + RIM + RIM) * STEP;
+
+pub(crate) const LOW_FLIPS: usize = BLOCK * BAND;
+
 pub(crate) fn plane() -> [u8; PLANE] {
     [0u8; PLANE]
 }
 
 pub(crate) fn flips() -> [u8; FLIPS] {
     [0u8; FLIPS]
+}
+
+pub(crate) fn low_plane() -> [u8; LOW_PLANE] {
+    [0u8; LOW_PLANE]
+}
+
+pub(crate) fn low_flips() -> [u8; LOW_FLIPS] {
+    [0u8; LOW_FLIPS]
 }
 
 pub(crate) fn solid() -> [u8; SOLID] {

@@ -1,94 +1,51 @@
--- `run::run` meets its contract.
+-- `run::run` meets its contract: either memory has room for the image's rows.
 -- Assumes nothing.
-use mathlib.Core.Path.{sym}
-use native.Mathlib.Omega.{arith}
 use borrow.Author.Needs.{needs}
-use lib.Seq.{length-take-le}
-use Rattle.filter.proofs.RunEnds.{running-none}
 use Rattle.filter.proofs.run.run.Statement.{statement}
 use Rattle.filter.proofs.run.run.Tie as tie
 
-parts-of-requires : tie.Need-parts-of-requires
-parts-of-requires c κs = search needs
+-- from the calls of `start` back to the function's start
+abbrev low : tie.After-start-arg2 → tie.Start
+low c =
+    let memory = c .before .before .before .before in
+    let test = memory .before .before .before in
+    test .before .before .before .before
+
+abbrev high : tie.After-start-arg4 → tie.Start
+high c =
+    let memory = c .before .before .before .before in
+    let test = memory .before .before .before in
+    test .before .before .before .before
+
+low-plane-requires : tie.Need-low-plane-requires
+low-plane-requires c κs = search needs
+
+low-flips-requires : tie.Need-low-flips-requires
+low-flips-requires c κs = search needs
+
+slice-aggregate-start : tie.Need-slice-aggregate-start
+slice-aggregate-start c = search needs
+
+slice-aggregate-start-2 : tie.Need-slice-aggregate-start-2
+slice-aggregate-start-2 c = search needs
+
+start-requires : tie.Need-start-requires
+start-requires c κs = let pre = low c .pre in (pre .0, pre .1, pre .2, pre .3, pre .4, pre .5, pre .6, search needs, search needs)
 
 plane-requires : tie.Need-plane-requires
 plane-requires c κs = search needs
 
-solid-requires : tie.Need-solid-requires
-solid-requires c κs = search needs
-
-map-requires : tie.Need-map-requires
-map-requires c κs = search needs
-
 flips-requires : tie.Need-flips-requires
 flips-requires c κs = search needs
 
-marks-requires : tie.Need-marks-requires
-marks-requires c κs = search needs
+slice-aggregate-start-3 : tie.Need-slice-aggregate-start-3
+slice-aggregate-start-3 c = search needs
 
-all-rows-requires : tie.Need-all-rows-requires
-all-rows-requires c κs = search needs
+slice-aggregate-start-4 : tie.Need-slice-aggregate-start-4
+slice-aggregate-start-4 c = search needs
 
-all-rows-requires-2 : tie.Need-all-rows-requires-2
-all-rows-requires-2 c κs = search needs
-
-mul-pixels : tie.Need-mul-pixels
-mul-pixels c = search needs
-
-slice-reshare-prefix-pack : tie.Need-slice-reshare-prefix-pack
-slice-reshare-prefix-pack c = search needs
-
-slice-aggregate-pack : tie.Need-slice-aggregate-pack
-slice-aggregate-pack c = search needs
-
-slice-aggregate-pack-2 : tie.Need-slice-aggregate-pack-2
-slice-aggregate-pack-2 c = search needs
-
-pack-requires : tie.Need-pack-requires
-pack-requires c κs = search needs
-
-array-share-prefix-parts : tie.Need-array-share-prefix-parts
-array-share-prefix-parts c = search needs
-
-slice-aggregate-repeat : tie.Need-slice-aggregate-repeat
-slice-aggregate-repeat c =
-    let rows = c .before .before .before .before .before .before in
-    let found = rows .before .before .before .before .before .before in
-    let facts = found .parts-of .ensures in
-    sym (length-take-le _ _ (omega arith))
-
-slice-aggregate-repeat-2 : tie.Need-slice-aggregate-repeat-2
-slice-aggregate-repeat-2 c = search needs
-
-slice-aggregate-repeat-3 : tie.Need-slice-aggregate-repeat-3
-slice-aggregate-repeat-3 c = search needs
-
-slice-aggregate-repeat-4 : tie.Need-slice-aggregate-repeat-4
-slice-aggregate-repeat-4 c = search needs
-
-slice-aggregate-repeat-5 : tie.Need-slice-aggregate-repeat-5
-slice-aggregate-repeat-5 c = search needs
-
-slice-aggregate-repeat-6 : tie.Need-slice-aggregate-repeat-6
-slice-aggregate-repeat-6 c = search needs
-
-repeat-requires : tie.Need-repeat-requires
-repeat-requires c κs =
-    let packed = c .before .before .before .before .before .before .before .before .before .before .before in
-    let stale = packed .before .before .before in
-    let found = stale .before .before .before .before .before .before .before in
-    let pre = found .before .before .before .before .before .before .pre in (
-      pre .0,
-      found .parts-of .ensures .1,
-      record {
-        room = record { wide = pre .2 .wide; narrow = pre .3; low = pre .4; plane-long = search needs; flips-long = search needs; marks-long = search needs };
-        dirty-long = search needs;
-        stale-long = search needs;
-        first-long = pre .5;
-        second-long = pre .6;
-      },
-      λ t e k. running-none _ _ e k (pre .2) (packed .pack .ensures) (pre .4) (stale .before .all-rows .ensures) (stale .all-rows2 .ensures),
-    )
+start-requires-2 : tie.Need-start-requires-2
+start-requires-2 c κs = let pre = high c .pre in (pre .0, pre .1, pre .2, pre .3, pre .4, pre .5, pre .6, search needs, search needs)
 
 same-length : tie.Need-same-length
 same-length c = search needs
@@ -99,31 +56,32 @@ same-length-2 c = search needs
 returns : tie.Need-returns
 returns c = search needs
 
+same-length-3 : tie.Need-same-length-3
+same-length-3 c = search needs
+
+same-length-4 : tie.Need-same-length-4
+same-length-4 c = search needs
+
+returns-2 : tie.Need-returns-2
+returns-2 c = search needs
+
 pub run-spec : {M : Type 1} → statement M
 run-spec =
     tie.close
     (tie.spec
-    parts-of-requires
+    low-plane-requires
+    low-flips-requires
+    slice-aggregate-start
+    slice-aggregate-start-2
+    start-requires
     plane-requires
-    solid-requires
-    map-requires
     flips-requires
-    marks-requires
-    all-rows-requires
-    all-rows-requires-2
-    mul-pixels
-    slice-reshare-prefix-pack
-    slice-aggregate-pack
-    slice-aggregate-pack-2
-    pack-requires
-    array-share-prefix-parts
-    slice-aggregate-repeat
-    slice-aggregate-repeat-2
-    slice-aggregate-repeat-3
-    slice-aggregate-repeat-4
-    slice-aggregate-repeat-5
-    slice-aggregate-repeat-6
-    repeat-requires
+    slice-aggregate-start-3
+    slice-aggregate-start-4
+    start-requires-2
     same-length
     same-length-2
-    returns)
+    returns
+    same-length-3
+    same-length-4
+    returns-2)
