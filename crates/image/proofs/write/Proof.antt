@@ -13,14 +13,18 @@ use Rattle.image.proofs.write.Statement.{statement}
 use Rattle.image.proofs.write.Tie as tie
 use Rattle.verdict.specs.declared.Verdict.the-variants.{Accepted}
 
+-- from the accepted pixels back to the function's start
+abbrev begin : tie.After-enum-told → tie.Start
+begin c = let checked = c .before .before in checked .before .before .before
+
 abbrev w : tie.After-enum-told → ℕ
-w c = c .before .before .before .before .before .args .width
+w c = begin c .args .width
 
 abbrev h : tie.After-enum-told → ℕ
-h c = c .before .before .before .before .before .args .height
+h c = begin c .args .height
 
 abbrev px : tie.After-enum-told → List ℕ
-px c = c .before .before .before .before .before .args .pixels .now
+px c = begin c .args .pixels .now
 
 accepted : (c : tie.After-enum-told) → pixelVerdict (w c) (h c) (px c) ≡ Accepted
 accepted c = sym (c .before .before .check-pixels .ensures) ∙ c .enum-told .given .1

@@ -25,9 +25,10 @@ same-length c = search needs
 
 returns : tie.Need-returns
 returns c =
-    let t = c .before .before .before .before .before .before .before in
-    let s = t .before .before .before .before in
-    put-filled _ _ _ _ (s .pre .3) (t .write .ensures) (c .before .before .before .length-of .ensures) (c .before .before .image .ensures)
+    let sized = c .before .before .before in
+    let headed = sized .before .before .before .before in
+    let begin = headed .before .before .before .before in
+    put-filled _ _ _ _ (begin .pre .3) (headed .write .ensures) (sized .length-of .ensures) (c .before .before .image .ensures)
 
 pub put-spec : {M : Type 1} → statement M
 put-spec =

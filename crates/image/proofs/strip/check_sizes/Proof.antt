@@ -41,8 +41,9 @@ refused-requires c κs = search needs
 
 returns : tie.Need-returns Inv-loop μ-loop
 returns c =
-    let turn = c .before .before .before .before .before in
-    c .refused .ensures ∙ search-found 10 (turn .before .loop .inv) (turn .loop-test .taken) (sym (c .before .before .is-bad .ensures) ∙ c .before .if1 .taken)
+    let test = c .before in
+    let turn = test .before .before .before .before in
+    c .refused .ensures ∙ search-found 10 (turn .before .loop .inv) (turn .loop-test .taken) (sym (test .before .is-bad .ensures) ∙ test .if1 .taken)
 
 add-i : tie.Need-add-i Inv-loop μ-loop
 add-i c = search needs

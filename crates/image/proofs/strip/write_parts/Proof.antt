@@ -16,11 +16,16 @@ Inv-loop width heights pixels out₀ from₀ to₀ i₀ out from to i = PartsPut
 abbrev μ-loop : tie.MeasureT-loop
 μ-loop width heights pixels out₀ from₀ to₀ i₀ out from to i = length heights - i
 
+-- from a turn of the loop back to the function's start
+abbrev start : tie.In-loop Inv-loop μ-loop → tie.Start Inv-loop μ-loop
+start turn = let loop = turn .before in loop .before .before .before .before
+
 -- the file of the part at hand lies in the output
 room : (c : tie.After-length-of Inv-loop μ-loop) → c .before .before .before .loop .to + c .length-of .result ≤ length (c .before .before .before .loop .out)
 room c =
-    let s = c .before .before .before .before .before .before .before in
-    put-target (c .before .before .before .loop .inv) (c .before .before .loop-test .taken) (s .pre .5) (c .length-of .ensures _)
+    let turn = c .before .before in
+    let s = start turn in
+    put-target (turn .before .loop .inv) (turn .loop-test .taken) (s .pre .5) (c .length-of .ensures _)
 
 loop-holds : tie.Need-loop-holds Inv-loop μ-loop
 loop-holds c = put-none _ _ _ _
@@ -33,18 +38,21 @@ shared-slice-read-height c = search needs
 
 mul-pixel-end : tie.Need-mul-pixel-end Inv-loop μ-loop
 mul-pixel-end c =
-    let s = c .before .before .before .before .before .before in
-    omega (arith, pixels-few (part-sides (s .args .heights .now) (s .pre .0) (s .pre .1) (s .pre .2) (c .before .before .loop .i) (c .before .loop-test .taken)))
+    let turn = c .before in
+    let s = start turn in
+    omega (arith, pixels-few (part-sides (s .args .heights .now) (s .pre .0) (s .pre .1) (s .pre .2) (turn .before .loop .i) (turn .loop-test .taken)))
 
 add-pixel-end : tie.Need-add-pixel-end Inv-loop μ-loop
 add-pixel-end c =
-    let s = c .before .before .before .before .before .before in
-    omega (arith, put-source (c .before .before .loop .inv) (c .before .loop-test .taken) (s .pre .4), s)
+    let turn = c .before in
+    let s = start turn in
+    omega (arith, put-source (turn .before .loop .inv) (turn .loop-test .taken) (s .pre .4), s)
 
 length-of-requires : tie.Need-length-of-requires Inv-loop μ-loop
 length-of-requires c κs =
-    let s = c .before .before .before .before .before .before in
-    part-sides _ (s .pre .0) (s .pre .1) (s .pre .2) _ (c .before .loop-test .taken)
+    let turn = c .before in
+    let s = start turn in
+    part-sides _ (s .pre .0) (s .pre .1) (s .pre .2) _ (turn .loop-test .taken)
 
 add-file-end : tie.Need-add-file-end Inv-loop μ-loop
 add-file-end c = omega (arith, room c, c .before .before .before .before)
@@ -57,8 +65,9 @@ part-put-start c = search needs
 
 part-put-end : tie.Need-part-put-end Inv-loop μ-loop
 part-put-end c =
-    let s = c .before .before .before .before .before .before .before in
-    put-source (c .before .before .before .loop .inv) (c .before .before .loop-test .taken) (s .pre .4)
+    let turn = c .before .before in
+    let s = start turn in
+    put-source (turn .before .loop .inv) (turn .loop-test .taken) (s .pre .4)
 
 sub-put-2 : tie.Need-sub-put-2 Inv-loop μ-loop
 sub-put-2 c = search needs
@@ -72,8 +81,9 @@ part-put-end-2 c = room (c .before)
 put-requires : tie.Need-put-requires Inv-loop μ-loop
 put-requires c κs =
     let d = c .before .before in
-    let l = d .before .before .before in
-    let s = l .before .before .before .before in
+    let turn = d .before .before in
+    let l = turn .before in
+    let s = start turn in
     let n = s .args .width * getD (s .args .heights .now) (l .loop .i) 0 in (
       length-of-requires (d .before) tt,
       part-binary (l .loop .from + n - l .loop .from) (l .loop .from) (s .pre .3),
@@ -89,15 +99,19 @@ loop-less c = search needs
 
 loop-again : tie.Need-loop-again Inv-loop μ-loop
 loop-again c =
-    let d = c .before .before .before .before .before in
+    let put = c .before .before in
+    let d = put .before .before .before in
     let turn = d .before .before in
-    put-more (turn .before .loop .inv) (turn .loop-test .taken) (d .length-of .ensures) (room d) (c .before .before .put .ensures)
+    put-more (turn .before .loop .inv) (turn .loop-test .taken) (d .length-of .ensures) (room d) (put .put .ensures)
 
 same-length : tie.Need-same-length Inv-loop μ-loop
 same-length c = search needs
 
 returns : tie.Need-returns Inv-loop μ-loop
-returns c = put-all (c .before .loop .inv) (c .before .before .before .before .before .pre .5) (c .loop-test .left)
+returns c =
+    let loop = c .before in
+    let s = loop .before .before .before .before in
+    put-all (loop .loop .inv) (s .pre .5) (c .loop-test .left)
 
 pub write-parts-spec : {M : Type 1} → statement M
 write-parts-spec =
