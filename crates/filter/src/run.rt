@@ -44,7 +44,7 @@ pub(crate) struct Turn {
     removed: usize,
 }
 
-// From the image at the front of `first`, with a plane and flips for as many rows.
+// From the image at the front of `first`. The plane and the flips are for a block's rows where the image has no more, else for the most.
 pub(crate) fn run(
     elements: &[u32],
     persistents: &[u32],

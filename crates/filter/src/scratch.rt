@@ -18,7 +18,7 @@ pub(crate) const PLANE: usize = ROWS * STEP;
 
 pub(crate) const FLIPS: usize = MAX_SIDE * BAND;
 
-// The same for an image of no more rows than a block, which need not clear so much.
+// For an image of at most a block's rows: less to clear.
 pub(crate) const LOW_PLANE: usize = (BLOCK + RIM + RIM) * STEP;
 
 pub(crate) const LOW_FLIPS: usize = BLOCK * BAND;

@@ -3,7 +3,7 @@
 --     admitted, next-is           the filter admits a ready record's strip, and makes the job's next image
 --     room-changing, room-quiet   there is no room exactly where 14's pass clause holds
 --     Places j                    the record has 16 places for counts
---     by-room                     answer and area where the room that was handed on is the job's
+--     by-room                     the filter was given the room: its answer and area are those of the room
 --     record-is, to-second, to-first     answer and record, and the areas
 --     Crosses s px there c x      the filter's answer c and the area x, from the image px to the area there
 --     crossing-fits               the record's counts with that pass do not wrap
@@ -70,7 +70,7 @@ counts-none {j} o = ap₂ (λ (a d : List ℕ). record { added = a; removed = d 
 part-few : (f : ℕ → ℕ) {n : ℕ} → sumOf (tab f maxParts) ≡ n → (i : ℕ) → i < maxParts → getD (tab f maxParts) i 0 ≤ n
 part-few f e i l = omega (arith, place-few (tab f maxParts) i l, ap sumOf (padded-tab f), e)
 
--- the filter's answer and the area, by a number that is the room
+-- the filter was given a number, and the number is the room
 pub by-room : (t : Table) (p : Strip) (px there : List ℕ) {n room : ℕ} {c : Crossed} {x : List ℕ} → n ≡ room
     → (c ≡ crossed t p n px (length there)) × (x ≡ crossedArea t p n px there)
     → (c ≡ crossed t p room px (length there)) × (x ≡ crossedArea t p room px there)

@@ -51,14 +51,14 @@ same-length c = search needs
 
 returns-3 : tie.Need-returns-3
 returns-3 c =
-    let length = c .before in
-    let write = length .before .before .before .before in
+    let wrote = c .before in
+    let write = wrote .before .before .before .before in
     let image = write .before .before in
     let test = image .before .before in
     let told = test .before .before in
     let done = same-pixels _ _ (image .image .ensures) (write .write .ensures) in
     written _ _ (sym (told .before .before .ready .ensures) ∙ told .enum-told .given .1) (test .if1 .left)
-    (done .0) (done .1) (length .enum-told2 .given .1) (c .empty .ensures)
+    (done .0) (done .1) (wrote .enum-told2 .given .1) (c .empty .ensures)
 
 same-length-2 : tie.Need-same-length-2
 same-length-2 c = search needs
