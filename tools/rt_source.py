@@ -18,7 +18,7 @@ class Function:
     """A function with one `ensures`: the names and types of its parameters, its result, what it ensures of its result r, its body."""
 
     def __init__(self, source, name, params, result, said, body):
-        self.source, self.name, self.result = source, name, result
+        self.source, self.name, self.path, self.result = source, name, source.path(name), result
         self.params = [tuple(x.split(': ', 1)) for x in re.split(r',\s*', params.strip(', \n')) if x]
         self.said, self.body = ' '.join(said.split()), ' '.join(body.split())
 
@@ -33,11 +33,15 @@ class Source:
                  r'    ensures \{ λ r\. ⌜ ([^⌝]*) ⌝ \}\n\{\n(.*?)\n\}$')
         self.functions = {m[0]: Function(self, *m) for m in re.findall(shape, self.text, re.M | re.S)}
 
+    def path(self, name):
+        """the name of an item of this file, with the module before it"""
+        return f'{self.module}.{name}'.lstrip('.')
+
     def type(self, name):
         """(crate, path, whether it is an enum) of a declared type that this file calls `name`"""
         declared = re.search(rf'^pub (struct|enum) {name} \{{', self.text, re.M)
         if declared:
-            return self.crate, f'{self.module}.{name}'.lstrip('.'), declared.group(1) == 'enum'
+            return self.crate, self.path(name), declared.group(1) == 'enum'
         imported = re.search(rf'^use (\w+)::(?:(\w+)::)?{name};', self.text, re.M)
         if not imported:
             raise Bad(f'the type {name} is neither declared nor imported in crates/{self.crate}/src/{self.module or "lib"}.rt')

@@ -7,7 +7,7 @@
 --     count-ext, count-le, count-mono, count-sum          counting: by elements, at most all, and of two tests together
 --     count-some, any-count, count-none                   some passes, none passes
 --     count-append, count-set                             of two lists, and after one store
---     sumOf-append, sumOf-replicate                       the sum of two lists, and of one number n times
+--     sumOf-append, sumOf-set, sumOf-replicate            the sum of two lists, after one store, and of one number n times
 -- Assumes nothing.
 use mathlib.Core.Bool.{Bool, true, false, cond, not, _&&_, _||_, or-true, true≢false}
 use mathlib.Core.List.{List, [], _∷_, _++_, map, List·Memᴰ, List·Memᴰ·head, List·Memᴰ·tail, List·Memᴰ·not-nil, Memᴰ·append-left, Memᴰ·append-right, List·Memᴰ·append-cases}
@@ -220,6 +220,11 @@ module _ {ℓ} {A : Type ℓ} where
 pub sumOf-append : (l k : List ℕ) → sumOf (l ++ k) ≡ sumOf l + sumOf k
 sumOf-append [] k = omega arith
 sumOf-append (x ∷ l) k = omega (arith, sumOf-append l k)
+
+pub sumOf-set : (l : List ℕ) (i a : ℕ) → i < length l → sumOf (set l i a) + getD l i 0 ≡ sumOf l + a
+sumOf-set [] i a h = absurd (omega arith)
+sumOf-set (b ∷ l) zero a h = omega arith
+sumOf-set (b ∷ l) (suc i) a h = let e = sumOf-set l i a (omega arith) in omega arith
 
 pub sumOf-replicate : (n a : ℕ) → sumOf (replicate n a) ≡ n * a
 sumOf-replicate zero a = sym (zero-mul a)
