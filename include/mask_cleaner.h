@@ -2,14 +2,16 @@
 
    A call either does its work or is refused. Every answer starts with `number`, `place`, `witness` and `position`:
    number 0 means accepted, and the other three are 0 then; else number is one of the refusal numbers below, place says
-   where, witness and position say more with 5 and 7, and all else in the answer is 0. A refused call leaves all lent
-   memory as it was. (One exception: see mask_run.)
+   where, witness and position say more with 5 and 7, and all else in the answer is 0, but for a quota, which is handed
+   back. A refused call leaves all lent memory as it was. (One exception: see mask_run and mask_channel_run.)
 
    What the caller must see to, since no call can test it:
    - No pointer is null, also where its length is 0. Each points at as many bytes as its length says.
    - Memory that a call may write (a pointer without const) overlaps no other memory lent to the same call.
    - Every call on a job is lent the same two areas in the same order, and between these calls nobody else writes
      the record or the areas. A record that does not fit its areas is refused by 14 as far as that can be seen.
+   - A quota passes by value and comes back in the answer. Store the answer's quota after every call, refused or not, so
+     that each call gets it as the last one left it.
    - There are 128 KB of stack, of which mask_pass and mask_run use about half, and 256 KB where a job holds a strip of
      several parts. No call uses the heap or static memory, so calls on different memory may run in different threads. */
 #ifndef MASK_CLEANER_H
@@ -41,6 +43,7 @@ extern "C" {
 #define MASK_MAX_ROWS 4096             /* rows of all parts */
 #define MASK_MAX_STRIP_PIXELS 1048576  /* bytes of the largest work area that a strip needs */
 #define MASK_MAX_STRIP_FILES 131248    /* bytes of the longest files of all parts */
+#define MASK_MAX_CHANNELS 4            /* channels of a quota */
 
 /* ---- refusals: the number, and its place where that is not 0 */
 
@@ -64,6 +67,8 @@ extern "C" {
 #define MASK_NOT_STABLE 17        /* collect: a pass may still change the image */
 #define MASK_RANK_COUNT 18        /* the number of persistent elements is not 1 to 4 in a record, or not 2 to 4 in a table file that starts with 0; count + 1 */
 #define MASK_PARTS 23             /* strip: the number of parts is not 1 to 16; or a part's width is not the first's, the lowest such part, from 1 */
+#define MASK_ALLOWANCE_SPENT 24   /* channel: a pass at stage loaded, alone or in a run, and neither the channel's reserve nor the pool has a pass left; the channel, from 1 */
+#define MASK_QUOTA_RANGE 25       /* quota: opened with a number of channels not 1 to 4, or reserves that sum above the allowance; or a call is handed a quota of more than 4 channels, or a channel that the quota has not */
 #define MASK_SIZES_DIFFER 26      /* three image files: a width or height is not the first file's; the lowest such file, 2 or 3 */
 
 /* The place of a table's parts: 0 the count, and the 0 before it in a file; i the i-th element (from 1). The only persistent
@@ -122,6 +127,18 @@ typedef struct {
     mask_strip strip;
     mask_part_counts counts; /* they sum to added and removed */
 } mask_job;
+
+/* An allowance of passes that 1 to 4 channels share, each a job with areas of its own. A channel has a reserve, which no other
+   can take from it; what the reserves leave of the allowance is the pool, first come. Channels count from 1: channel i has
+   the places i - 1, and places past `channels` are not looked at. mask_quota_open opens a first quota from a record with
+   `channels`, `allowance` and `reserves` filled in, and a new one from the last one. After that only the calls write it. */
+typedef struct {
+    size_t channels;
+    size_t allowance;                   /* passes for all channels together */
+    size_t reserves[MASK_MAX_CHANNELS]; /* passes for each alone */
+    size_t left[MASK_MAX_CHANNELS];     /* what is left of each reserve */
+    size_t pool;                        /* what is left of the rest */
+} mask_quota;
 
 /* ---- answers */
 
@@ -182,6 +199,23 @@ typedef struct {
     int64_t balance; /* added - removed */
     size_t cover;    /* 1000 x black pixels / pixels to the nearest whole number, an exact half to the even one */
 } mask_figures_answer;
+
+typedef struct {
+    uint32_t number;
+    size_t place;
+    size_t witness;
+    size_t position;
+    mask_quota quota; /* opened; as it was where refused */
+} mask_quota_answer;
+
+typedef struct {
+    uint32_t number;
+    size_t place;
+    size_t witness;
+    size_t position;
+    uint32_t stable;  /* 1: nothing changed; 0: pixels changed, or refused */
+    mask_quota quota; /* less the passes that it paid for; as it was where none was made */
+} mask_channel_progress;
 
 /* ---- tables */
 
@@ -261,6 +295,29 @@ mask_figures_answer mask_figures(mask_job job, const uint8_t *first, size_t firs
    of all together. Refused by 14, 16, 17, and by 13 where `out` is shorter than that. */
 mask_file_length mask_collect(mask_job *job, const uint8_t *first, size_t first_length, const uint8_t *second,
                               size_t second_length, uint8_t *out, size_t out_length);
+
+/* ---- quotas: passes that several jobs share */
+
+/* Opens a quota, and begins it anew: reads `channels`, `allowance` and the reserves of these channels, and hands the quota
+   back with all of it left. `left` is then the reserves and `pool` the rest of the allowance; places past the channels are 0.
+   What `left` and `pool` were is not looked at. It sees no job: images and counts stay as they are. Refused by 25 where there
+   are not 1 to 4 channels or their reserves sum above the allowance, as numbers: no sum wraps. */
+mask_quota_answer mask_quota_open(mask_quota quota);
+
+/* One pass of a channel's job: as mask_pass, and a pass at stage loaded, whether it changes pixels or none, takes one from
+   what is left of the channel's reserve, or where that is 0 from the pool. A pass at stage stable takes none. Refused by 25
+   (more than 4 channels, or no such channel: 0 is none), 14, 16, 24 (at stage loaded, and neither has a pass left; the place
+   is the channel), and by 14 where the counts would rise above the number of pixels, as mask_pass is. A refused pass takes
+   none: job, areas and quota are as they were. All else of a channel's job are the calls above; a plain mask_pass or mask_run
+   on it touches no quota. */
+mask_channel_progress mask_channel_pass(mask_job *job, mask_quota quota, size_t channel, uint8_t *first,
+                                        size_t first_length, uint8_t *second, size_t second_length);
+
+/* A channel's passes until one changes nothing; `stable` is then 1. Each is paid for as in mask_channel_pass, also the last
+   one, which changes nothing. Refused as mask_channel_pass is. The exception: where a later pass is refused, by 24 or by
+   14, the passes before it stay in job and areas, and the quota comes back less these. */
+mask_channel_progress mask_channel_run(mask_job *job, mask_quota quota, size_t channel, uint8_t *first,
+                                       size_t first_length, uint8_t *second, size_t second_length);
 
 #ifdef __cplusplus
 }

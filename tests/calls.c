@@ -116,6 +116,16 @@ static int same_job(mask_job a, mask_job b) {
         && same_counts(a.counts, b.counts);
 }
 
+static mask_quota quota_of(size_t channels, size_t allowance, size_t one, size_t two, size_t three, size_t four) {
+    mask_quota q = {channels, allowance, {one, two, three, four}, {0}, 0};
+    return q;
+}
+
+static int same_quota(mask_quota a, mask_quota b) {
+    return a.channels == b.channels && a.allowance == b.allowance && memcmp(a.reserves, b.reserves, sizeof a.reserves) == 0
+        && memcmp(a.left, b.left, sizeof a.left) == 0 && a.pool == b.pool;
+}
+
 /* What every answer starts with is in the same place. */
 #define STARTS(answer)                                                                \
     EXPECT(offsetof(answer, number) == 0 && offsetof(answer, place) == 8              \
@@ -134,6 +144,11 @@ static void layout(void) {
     EXPECT(sizeof(mask_checked) == 32 && sizeof(mask_table_answer) == 320 && sizeof(mask_image_size) == 48);
     EXPECT(sizeof(mask_file_length) == 40 && sizeof(mask_progress) == 40 && sizeof(mask_part) == 48);
     EXPECT(sizeof(mask_figures_answer) == 48);
+    EXPECT(sizeof(mask_quota) == 88 && offsetof(mask_quota, channels) == 0 && offsetof(mask_quota, allowance) == 8);
+    EXPECT(offsetof(mask_quota, reserves) == 16 && offsetof(mask_quota, left) == 48 && offsetof(mask_quota, pool) == 80);
+    EXPECT(sizeof(mask_quota_answer) == 120 && offsetof(mask_quota_answer, quota) == 32);
+    EXPECT(sizeof(mask_channel_progress) == 128 && offsetof(mask_channel_progress, stable) == 32);
+    EXPECT(offsetof(mask_channel_progress, quota) == 40);
     STARTS(mask_checked);
     STARTS(mask_table_answer);
     STARTS(mask_image_size);
@@ -141,6 +156,8 @@ static void layout(void) {
     STARTS(mask_progress);
     STARTS(mask_part);
     STARTS(mask_figures_answer);
+    STARTS(mask_quota_answer);
+    STARTS(mask_channel_progress);
 }
 
 /* Each place of the elements is seen by value. */
@@ -826,6 +843,131 @@ static void pass_clause(int strip) {
     EXPECT(REFUSED(p, MASK_UNSOUND, 0) && p.stable == 0 && same_job(j, before) && all(second, 32, FILL));
 }
 
+/* What is read and what is not; 25; a refused quota comes back as it was, whatever stands in it. */
+static void quotas(void) {
+    static const size_t half = (size_t)1 << 63;
+    static const size_t most = (size_t)-1;
+    const mask_quota bad[] = {
+        quota_of(0, 9, 0, 0, 0, 0),          quota_of(5, 9, 0, 0, 0, 0),       quota_of(most, 9, 1, 1, 1, 1),
+        quota_of(2, 5, 3, 3, 0, 0),          quota_of(1, 0, 1, 0, 0, 0),       quota_of(2, most, half, half, 0, 0),
+        quota_of(2, 0, most, 1, 0, 0),       quota_of(4, 0, half, 0, half, 0), quota_of(4, 9, 0, 0, 0, 10),
+    };
+    for (size_t i = 0; i < sizeof bad / sizeof *bad; i++) {
+        mask_quota q = bad[i];
+        for (size_t k = 0; k < MASK_MAX_CHANNELS; k++) {
+            q.left[k] = 70 + k;
+        }
+        q.pool = 80;
+        mask_quota_answer r = mask_quota_open(q);
+        EXPECT(REFUSED(r, MASK_QUOTA_RANGE, 0) && same_quota(r.quota, q));
+    }
+    mask_quota_answer r = mask_quota_open(quota_of(2, 5, 2, 1, 9, 9));
+    mask_quota opened = {2, 5, {2, 1, 0, 0}, {2, 1, 0, 0}, 2};
+    EXPECT(ACCEPTED(r) && same_quota(r.quota, opened));
+    opened.left[0] = opened.left[1] = opened.pool = 0;
+    opened.left[3] = most;
+    EXPECT(ACCEPTED(mask_quota_open(opened)) && same_quota(mask_quota_open(opened).quota, r.quota));
+    r = mask_quota_open(quota_of(4, most, half, half - 4, 1, 2));
+    EXPECT(ACCEPTED(r) && r.quota.left[1] == half - 4 && r.quota.left[2] == 1 && r.quota.left[3] == 2 && r.quota.pool == 0);
+}
+
+/* The ring's dot in channel 3, an image or a strip: each call takes the quota by value and hands it back, from the reserve
+   first. One pass removes the dot, and the quiet one needs a pass too. */
+static void channel_job(int strip, int by_run) {
+    uint8_t first[32];
+    uint8_t second[32];
+    mask_job j = {0};
+    mask_quota q = {3, 11, {1, 2, 3, 0}, {4, 5, 1, 6}, 0};
+    memset(first, FILL, sizeof first);
+    memset(second, FILL, sizeof second);
+    mask_checked l = strip ? load_dot(&j, ring(), first, 30, second, 31)
+                           : mask_load(&j, ring(), dot_file, sizeof dot_file, first, 30, second, 31);
+    EXPECT(ACCEPTED(l));
+    mask_quota after = q;
+    after.left[2] = 0;
+    mask_channel_progress p = by_run ? mask_channel_run(&j, q, 3, first, 30, second, 31)
+                                     : mask_channel_pass(&j, q, 3, first, 30, second, 31);
+    EXPECT(by_run ? REFUSED(p, MASK_ALLOWANCE_SPENT, 3) : ACCEPTED(p));
+    EXPECT(p.stable == 0 && same_quota(p.quota, after));
+    EXPECT(j.stage == 1 && j.passes == 1 && j.added == 0 && j.removed == 1 && j.counts.removed[0] == 1);
+    EXPECT(all(second, 25, 0) && all(second + 25, 7, FILL) && first[12] == 1 && all(first + 25, 7, FILL));
+    mask_job before = j;
+    p = mask_channel_pass(&j, p.quota, 3, first, 30, second, 31);
+    EXPECT(REFUSED(p, MASK_ALLOWANCE_SPENT, 3) && p.stable == 0 && same_quota(p.quota, after) && same_job(j, before));
+    p = mask_channel_run(&j, p.quota, 3, first, 30, second, 31);
+    EXPECT(REFUSED(p, MASK_ALLOWANCE_SPENT, 3) && p.stable == 0 && same_quota(p.quota, after) && same_job(j, before));
+    EXPECT(first[12] == 1);
+    q = p.quota;
+    q.pool = 7;
+    for (int calls = 0; calls < 3; calls++) { /* the first is paid for, the others are at rest */
+        p = by_run ? mask_channel_run(&j, q, 3, first, 30, second, 31) : mask_channel_pass(&j, q, 3, first, 30, second, 31);
+        after.pool = 6;
+        EXPECT(ACCEPTED(p) && p.stable == 1 && same_quota(p.quota, after));
+        EXPECT(j.stage == 2 && j.passes == 1 && all(first, 25, 0) && all(first + 25, 7, FILL));
+        q = p.quota;
+    }
+}
+
+/* 25 comes before 14, this before 16, then 24, and then 14's pass clause. Nothing is altered. */
+static void channel_refused(void) {
+    static const struct {
+        size_t channels, left, pool, channel;
+        int loaded, full;
+        size_t width;
+        uint32_t number;
+        size_t place;
+    } cases[] = {
+        {5, 0, 0, 1, 1, 1, 6, MASK_QUOTA_RANGE, 0},         {0, 1, 1, 0, 0, 0, 0, MASK_QUOTA_RANGE, 0},
+        {2, 0, 0, 3, 0, 0, 1, MASK_QUOTA_RANGE, 0},         {2, 1, 1, 0, 1, 0, 5, MASK_QUOTA_RANGE, 0},
+        {(size_t)-1, 1, 1, 4, 1, 0, 5, MASK_QUOTA_RANGE, 0}, {4, 1, 1, (size_t)-1, 1, 0, 5, MASK_QUOTA_RANGE, 0},
+        {2, 0, 0, 2, 0, 0, 1, MASK_UNSOUND, 0},             {2, 0, 0, 2, 1, 1, 6, MASK_UNSOUND, 0},
+        {2, 0, 0, 2, 0, 0, 0, MASK_NOTHING_LOADED, 0},      {2, 0, 0, 2, 1, 1, 5, MASK_ALLOWANCE_SPENT, 2},
+        {4, 0, 0, 4, 1, 0, 5, MASK_ALLOWANCE_SPENT, 4},     {2, 1, 0, 2, 1, 1, 5, MASK_UNSOUND, 0},
+        {4, 0, 1, 4, 1, 1, 5, MASK_UNSOUND, 0},
+    };
+    for (size_t i = 0; i < sizeof cases / sizeof *cases; i++) {
+        uint8_t first[32];
+        uint8_t second[32];
+        mask_job j = {0};
+        mask_quota q = quota_of(cases[i].channels, 3, 9, 8, 7, 6);
+        memset(first, FILL, sizeof first);
+        memset(second, FILL, sizeof second);
+        if (cases[i].loaded) {
+            EXPECT(ACCEPTED(mask_load(&j, ring(), dot_file, sizeof dot_file, first, 32, second, 32)));
+        }
+        if (cases[i].full) {
+            j.added = j.counts.added[0] = 25;
+        }
+        j.width = cases[i].width;
+        for (size_t k = 0; k < MASK_MAX_CHANNELS; k++) {
+            q.left[k] = k + 1 == cases[i].channel ? cases[i].left : 5; /* others' passes do not help */
+        }
+        q.pool = cases[i].pool;
+        mask_job before = j;
+        mask_channel_progress p = mask_channel_pass(&j, q, cases[i].channel, first, 32, second, 32);
+        EXPECT(REFUSED(p, cases[i].number, cases[i].place) && p.stable == 0 && same_quota(p.quota, q) && same_job(j, before));
+        p = mask_channel_run(&j, q, cases[i].channel, first, 32, second, 32);
+        EXPECT(REFUSED(p, cases[i].number, cases[i].place) && p.stable == 0 && same_quota(p.quota, q) && same_job(j, before));
+        EXPECT(all(second, 32, FILL) && (cases[i].loaded ? first[12] == 1 : all(first, 32, FILL)));
+    }
+}
+
+/* In a quota by hand, reserve and pool together may be above all numbers: a pass is left. */
+static void channel_numbers(void) {
+    static const size_t half = (size_t)1 << 63;
+    for (size_t channel = 1; channel <= MASK_MAX_CHANNELS; channel++) {
+        uint8_t first[32];
+        uint8_t second[32];
+        mask_job j = {0};
+        mask_quota q = {4, 0, {0}, {0}, half};
+        q.left[channel - 1] = half;
+        EXPECT(ACCEPTED(mask_load(&j, ring(), dot_file, sizeof dot_file, first, 32, second, 32)));
+        mask_channel_progress p = mask_channel_run(&j, q, channel, first, 32, second, 32);
+        q.left[channel - 1] = half - 2;
+        EXPECT(ACCEPTED(p) && p.stable == 1 && same_quota(p.quota, q) && j.stage == 2 && j.removed == 1);
+    }
+}
+
 int main(void) {
     layout();
     table_check();
@@ -848,8 +990,13 @@ int main(void) {
         whole_job(&dots, by_run);
         whole_job(&two_dots, by_run);
         strip_job(by_run);
+        channel_job(0, by_run);
+        channel_job(1, by_run);
     }
     pass_clause(0);
     pass_clause(1);
+    quotas();
+    channel_refused();
+    channel_numbers();
     return failures != 0;
 }

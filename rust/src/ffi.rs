@@ -3,7 +3,7 @@
 //! A pass or run uses some 56 KB of stack, and the header asks for 128 KB, for strips 256: a main thread (8 MB) and the
 //! threads of tests (2 MB) have it; a thread made with a smaller stack may not.
 
-use crate::record::{JobRecord, PartCounts, StripRecord, TableRecord};
+use crate::record::{JobRecord, PartCounts, QuotaRecord, StripRecord, TableRecord};
 use std::mem::{offset_of, size_of};
 
 /// What every answer starts with.
@@ -56,6 +56,20 @@ pub struct Figures {
     pub cover: usize,
 }
 
+#[repr(C)]
+pub struct QuotaAnswer {
+    pub verdict: Verdict,
+    pub quota: QuotaRecord,
+}
+
+#[repr(C)]
+pub struct ChannelProgress {
+    pub verdict: Verdict,
+    /// 0 changed, 1 at rest.
+    pub stable: u32,
+    pub quota: QuotaRecord,
+}
+
 // The sizes of the header's records and answers.
 const _: () = assert!(size_of::<TableRecord>() == 288);
 const _: () = assert!(size_of::<StripRecord>() == 264);
@@ -64,6 +78,8 @@ const _: () = assert!(size_of::<JobRecord>() == 856);
 const _: () = assert!(offset_of!(JobRecord, table) == 48);
 const _: () = assert!(offset_of!(JobRecord, strip) == 336);
 const _: () = assert!(offset_of!(JobRecord, counts) == 600);
+const _: () = assert!(size_of::<QuotaRecord>() == 88);
+const _: () = assert!(offset_of!(QuotaRecord, left) == 48);
 const _: () = assert!(size_of::<Verdict>() == 32);
 const _: () = assert!(size_of::<TableRead>() == 320);
 const _: () = assert!(size_of::<ImageSize>() == 48);
@@ -71,6 +87,9 @@ const _: () = assert!(size_of::<Length>() == 40);
 const _: () = assert!(size_of::<Progress>() == 40);
 const _: () = assert!(size_of::<Part>() == 48);
 const _: () = assert!(size_of::<Figures>() == 48);
+const _: () = assert!(size_of::<QuotaAnswer>() == 120);
+const _: () = assert!(size_of::<ChannelProgress>() == 128);
+const _: () = assert!(offset_of!(ChannelProgress, quota) == 40);
 
 extern "C" {
     pub fn mask_table_check(table: TableRecord) -> Verdict;
@@ -147,6 +166,25 @@ extern "C" {
         second: *mut u8,
         second_length: usize,
     ) -> Progress;
+    pub fn mask_quota_open(quota: QuotaRecord) -> QuotaAnswer;
+    pub fn mask_channel_pass(
+        job: *mut JobRecord,
+        quota: QuotaRecord,
+        channel: usize,
+        first: *mut u8,
+        first_length: usize,
+        second: *mut u8,
+        second_length: usize,
+    ) -> ChannelProgress;
+    pub fn mask_channel_run(
+        job: *mut JobRecord,
+        quota: QuotaRecord,
+        channel: usize,
+        first: *mut u8,
+        first_length: usize,
+        second: *mut u8,
+        second_length: usize,
+    ) -> ChannelProgress;
     pub fn mask_view(
         job: JobRecord,
         first: *const u8,

@@ -1,8 +1,8 @@
-//! For everyday use: a table that was accepted, and a job with its own record and areas.
+//! For everyday use: a table that was accepted, a job with its own record and areas, and a quota that jobs share.
 
 use crate::library;
-use crate::record::{Figures, JobRecord, Progress, Refusal, StripRecord, TableRecord};
-use crate::record::{MAX_RANKS, MAX_SIDE, PLACES};
+use crate::record::{Figures, JobRecord, Progress, QuotaRecord, Refusal, StripRecord, TableRecord};
+use crate::record::{MAX_CHANNELS, MAX_RANKS, MAX_SIDE, PLACES};
 
 /// The longest table file: the leading 0, both counts, and all elements and persistent elements of four bytes each.
 const MAX_TABLE_FILE: usize = 3 + 4 * (PLACES + MAX_RANKS);
@@ -34,6 +34,52 @@ impl Table {
         let length = library::write_table(&self.0, &mut file).expect("the table was accepted");
         file.truncate(length);
         file
+    }
+}
+
+/// A quota that the library opened (T-10: a round of passes that up to four lanes share). Only the calls of jobs and [`Quota::renew`] alter
+/// it, so a channel can always use its reserve.
+#[derive(Clone, Debug, PartialEq, Eq)]
+pub struct Quota(QuotaRecord);
+
+impl Quota {
+    /// So many channels, counted from 1, share the allowance; each has its reserve. Reserves past the channels are not looked at.
+    pub fn open(
+        channels: usize,
+        allowance: usize,
+        reserves: [usize; MAX_CHANNELS],
+    ) -> Result<Quota, Refusal> {
+        let mut record = QuotaRecord::new(channels, allowance, reserves);
+        library::open_quota(&mut record)?;
+        Ok(Quota(record))
+    }
+
+    /// Begins anew, with all of the allowance left. The jobs stay as they are.
+    pub fn renew(&mut self) {
+        library::open_quota(&mut self.0).expect("the quota was opened before");
+    }
+
+    pub fn record(&self) -> &QuotaRecord {
+        &self.0
+    }
+
+    pub fn allowance(&self) -> usize {
+        self.0.allowance
+    }
+
+    /// One for each channel.
+    pub fn reserves(&self) -> &[usize] {
+        &self.0.reserves[..self.0.channels]
+    }
+
+    /// What is left of each reserve.
+    pub fn left(&self) -> &[usize] {
+        &self.0.left[..self.0.channels]
+    }
+
+    /// What is left of that which the reserves leave of the allowance.
+    pub fn pool(&self) -> usize {
+        self.0.pool
     }
 }
 
@@ -105,6 +151,26 @@ impl Job {
     /// Passes until nothing changes.
     pub fn run(&mut self) -> Result<(), Refusal> {
         library::run(&mut self.record, &mut self.first, &mut self.second).map(|_| ())
+    }
+
+    /// A pass that the quota pays for, from the channel's reserve first. At rest, and where it is refused, it costs nothing.
+    pub fn channel_pass(&mut self, quota: &mut Quota, channel: usize) -> Result<Progress, Refusal> {
+        let Job {
+            record,
+            first,
+            second,
+        } = self;
+        library::channel_pass(record, &mut quota.0, channel, first, second)
+    }
+
+    /// Passes until nothing changes, each paid for by the quota. Where none is left for the next, the finished ones stay.
+    pub fn channel_run(&mut self, quota: &mut Quota, channel: usize) -> Result<(), Refusal> {
+        let Job {
+            record,
+            first,
+            second,
+        } = self;
+        library::channel_run(record, &mut quota.0, channel, first, second).map(|_| ())
     }
 
     /// The present image, one byte a pixel.

@@ -1,12 +1,12 @@
 //! The library's calls, made safe: a record may hold any values, a slice may have any length.
 //!
 //! Each function is one call of `include/mask_cleaner.h`. After a refusal all that was lent is unchanged,
-//! but for a run that meets a pass refused as unsound: it keeps the passes before.
+//! but for a run that meets a pass refused as unsound, or without a pass left in its quota: it keeps the passes before.
 //! A thread that calls needs 128 KB of stack, and 256 KB for strips.
 
 use crate::ffi;
 use crate::record::{
-    Figures, JobRecord, Progress, Reason, Refusal, StripRecord, TableRecord, MAX_RANKS,
+    Figures, JobRecord, Progress, QuotaRecord, Reason, Refusal, StripRecord, TableRecord, MAX_RANKS,
 };
 
 pub fn check_table(table: &TableRecord) -> Result<(), Refusal> {
@@ -171,7 +171,7 @@ pub fn pass(
             second.len(),
         )
     };
-    progress(answer)
+    progress(answer.verdict, answer.stable)
 }
 
 pub fn run(
@@ -189,7 +189,63 @@ pub fn run(
             second.len(),
         )
     };
-    progress(answer)
+    progress(answer.verdict, answer.stable)
+}
+
+/// Opens a quota or begins it anew, with all of its allowance left.
+pub fn open_quota(quota: &mut QuotaRecord) -> Result<(), Refusal> {
+    // SAFETY: the quota passes by value.
+    let answer = unsafe { ffi::mask_quota_open(*quota) };
+    *quota = answer.quota;
+    verdict(answer.verdict, true)
+}
+
+/// A channel's pass. The quota is what the call hands back, refused or not.
+pub fn channel_pass(
+    record: &mut JobRecord,
+    quota: &mut QuotaRecord,
+    channel: usize,
+    first: &mut [u8],
+    second: &mut [u8],
+) -> Result<Progress, Refusal> {
+    // SAFETY: pointers and lengths are those of slices; nobody else uses record and areas.
+    let answer = unsafe {
+        ffi::mask_channel_pass(
+            record,
+            *quota,
+            channel,
+            first.as_mut_ptr(),
+            first.len(),
+            second.as_mut_ptr(),
+            second.len(),
+        )
+    };
+    *quota = answer.quota;
+    progress(answer.verdict, answer.stable)
+}
+
+/// A channel's run. The quota is what the call hands back, refused or not.
+pub fn channel_run(
+    record: &mut JobRecord,
+    quota: &mut QuotaRecord,
+    channel: usize,
+    first: &mut [u8],
+    second: &mut [u8],
+) -> Result<Progress, Refusal> {
+    // SAFETY: pointers and lengths are those of slices; nobody else uses record and areas.
+    let answer = unsafe {
+        ffi::mask_channel_run(
+            record,
+            *quota,
+            channel,
+            first.as_mut_ptr(),
+            first.len(),
+            second.as_mut_ptr(),
+            second.len(),
+        )
+    };
+    *quota = answer.quota;
+    progress(answer.verdict, answer.stable)
 }
 
 /// The present image: the first width × height bytes of the area that holds it.
@@ -259,9 +315,9 @@ pub fn collect(
     Ok(answer.length)
 }
 
-fn progress(answer: ffi::Progress) -> Result<Progress, Refusal> {
-    verdict(answer.verdict, answer.stable == 0)?;
-    match answer.stable {
+fn progress(answer: ffi::Verdict, stable: u32) -> Result<Progress, Refusal> {
+    verdict(answer, stable == 0)?;
+    match stable {
         0 => Ok(Progress::Changed),
         1 => Ok(Progress::Stable),
         stable => panic!("the library answers {stable} in place of 0 or 1"),

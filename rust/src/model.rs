@@ -1,9 +1,12 @@
 //! 01, "Lists of calls": the book beside a list. It sees the calls' arguments and the areas' lengths,
 //! never the record or the areas' bytes.
 
-use crate::record::{Figures, PartCounts, Progress, Reason, Refusal, StripRecord, TableRecord};
+use crate::record::{
+    Figures, PartCounts, Progress, QuotaRecord, Reason, Refusal, StripRecord, TableRecord,
+};
 use crate::reference::image::{self, Image};
 use crate::reference::pass::{changes, one_pass};
+use crate::reference::quota;
 use crate::reference::strip::{self, Strip};
 use crate::reference::table;
 
@@ -31,6 +34,13 @@ pub enum Call {
     Collect {
         out_length: usize,
     },
+}
+
+/// A call of a list that is handed a quota, and the channel's number (T-10).
+#[derive(Clone, Copy, Debug, PartialEq, Eq)]
+pub enum ChannelCall {
+    Pass,
+    Run,
 }
 
 /// What an accepted call says; for collect, what it writes: the file, or the files of a strip.
@@ -83,6 +93,19 @@ impl Book {
             Call::Figures => Ok(Answer::Figures(self.entry_mut()?.figures())),
             Call::Collect { out_length } => self.collect(*out_length),
         }
+    }
+
+    /// Enters a channel's call, and gives its answer and the quota afterwards. 25 and 24 follow from the quota. A refused call leaves
+    /// book and quota alone, but for a run that 24 stops: its finished passes are in both.
+    pub fn enter_channel(
+        &mut self,
+        call: ChannelCall,
+        quota: &mut QuotaRecord,
+        channel: usize,
+    ) -> Result<Answer, Refusal> {
+        quota::check_channel(quota, channel)?;
+        let entry = self.entry_mut()?;
+        entry.metered(call, quota, channel).map(Answer::Progress)
     }
 
     fn entry_mut(&mut self) -> Result<&mut Entry, Refusal> {
@@ -190,6 +213,37 @@ impl Entry {
         panic!("no rest after pixels + 1 passes");
     }
 
+    /// The passes that the call needs are made at once where the quota has them. Else a pass makes none, and a run as many as there are.
+    fn metered(
+        &mut self,
+        call: ChannelCall,
+        quota: &mut QuotaRecord,
+        channel: usize,
+    ) -> Result<Progress, Refusal> {
+        let mut ahead = self.clone();
+        let progress = match call {
+            ChannelCall::Pass => ahead.pass(),
+            ChannelCall::Run => ahead.run(),
+        };
+        let needed = self.passes_to(&ahead);
+        let available = quota.left[channel - 1].saturating_add(quota.pool);
+        pay(quota, channel, needed.min(available));
+        if needed <= available {
+            *self = ahead;
+            return Ok(progress);
+        }
+        for _ in 0..available {
+            self.pass();
+        }
+        Err(Refusal::at(Reason::AllowanceSpent, channel))
+    }
+
+    /// The passes from here to there that a quota pays for: those that join an image, and the one that sets the mark.
+    fn passes_to(&self, there: &Entry) -> usize {
+        let joined = there.images.len() - self.images.len();
+        joined + usize::from(there.stable && !self.stable)
+    }
+
     fn figures(&self) -> Figures {
         let (added, removed) = self.changed();
         Figures {
@@ -197,6 +251,14 @@ impl Entry {
             cover: cover(self.last().black(), self.pixels()),
         }
     }
+}
+
+/// So many passes less, as many as can be from the channel's reserve.
+fn pay(quota: &mut QuotaRecord, channel: usize, passes: usize) {
+    let left = &mut quota.left[channel - 1];
+    let from_reserve = passes.min(*left);
+    *left -= from_reserve;
+    quota.pool -= passes - from_reserve;
 }
 
 /// Thousandths: a half is added and the rest cut off. Nothing is left exactly where a half was added to a half.

@@ -14,6 +14,9 @@ pub const MAX_SIDE: usize = 256;
 /// The most parts of a strip.
 pub const MAX_PARTS: usize = 16;
 
+/// The most channels of a quota.
+pub const MAX_CHANNELS: usize = 4;
+
 /// A table as 01's record; any values may stand in it.
 #[repr(C)]
 #[derive(Clone, Copy, Debug, PartialEq, Eq)]
@@ -141,6 +144,33 @@ impl JobRecord {
     }
 }
 
+/// An allowance of passes that channels share (T-10: a round, and its lanes); any values may stand in it. Channels count from 1.
+#[repr(C)]
+#[derive(Clone, Copy, Debug, PartialEq, Eq)]
+pub struct QuotaRecord {
+    pub channels: usize,
+    pub allowance: usize,
+    /// T-10's floors. What stands past the channels is not looked at where a quota is opened, and zero afterwards.
+    pub reserves: [usize; MAX_CHANNELS],
+    /// What is left of each reserve.
+    pub left: [usize; MAX_CHANNELS],
+    /// What is left of that which the reserves leave of the allowance.
+    pub pool: usize,
+}
+
+impl QuotaRecord {
+    /// Nothing is checked, and nothing left until it is opened.
+    pub fn new(channels: usize, allowance: usize, reserves: [usize; MAX_CHANNELS]) -> QuotaRecord {
+        QuotaRecord {
+            channels,
+            allowance,
+            reserves,
+            left: [0; MAX_CHANNELS],
+            pool: 0,
+        }
+    }
+}
+
 /// What an accepted pass or run says.
 #[derive(Clone, Copy, Debug, PartialEq, Eq)]
 pub enum Progress {
@@ -181,11 +211,13 @@ pub enum Reason {
     NotStable = 17,
     RankCount = 18,
     Parts = 23,
+    AllowanceSpent = 24,
+    QuotaRange = 25,
     SizesDiffer = 26,
 }
 
 impl Reason {
-    pub const ALL: [Reason; 20] = [
+    pub const ALL: [Reason; 22] = [
         Reason::BytesEnd,
         Reason::Groups,
         Reason::Count,
@@ -205,6 +237,8 @@ impl Reason {
         Reason::NotStable,
         Reason::RankCount,
         Reason::Parts,
+        Reason::AllowanceSpent,
+        Reason::QuotaRange,
         Reason::SizesDiffer,
     ];
 
@@ -240,6 +274,10 @@ impl Reason {
             }
             Reason::Parts => {
                 "the number of parts is not 1 to 16, or a part does not have the width of the first"
+            }
+            Reason::AllowanceSpent => "neither the channel's reserve nor the pool has a pass left",
+            Reason::QuotaRange => {
+                "the number of channels is not 1 to 4, the reserves sum above the allowance, or there is no such channel"
             }
             Reason::SizesDiffer => "an image does not have the size of the first",
         }

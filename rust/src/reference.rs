@@ -4,10 +4,12 @@
 //! - [`image`]: images, the strict PBM reader and writer, the majority of three.
 //! - [`strip`]: strips, the check of their parts, the parts' files.
 //! - [`pass`]: covered, one pass, the plain rule, the preview.
-//! - [`job`]: load, load of three files and of a strip, pass, run, view, figures, collect.
+//! - [`quota`]: opening a quota, the channel of a call, what a pass costs.
+//! - [`job`]: load, load of three files and of a strip, pass, run, a channel's pass and run, view, figures, collect.
 
 pub mod image;
 pub mod job;
 pub mod pass;
+pub mod quota;
 pub mod strip;
 pub mod table;

@@ -5,7 +5,7 @@ mod common;
 use common::report;
 use mask_cleaner::cases::{median, Kind, Random};
 use mask_cleaner::library;
-use mask_cleaner::record::{JobRecord, StripRecord, MAX_PARTS, MAX_SIDE};
+use mask_cleaner::record::{JobRecord, QuotaRecord, StripRecord, MAX_PARTS, MAX_SIDE};
 use mask_cleaner::reference::image::file_of;
 use std::ffi::{c_int, c_void};
 
@@ -17,6 +17,9 @@ const ENOUGH_FOR_STRIPS: usize = 256 * 1024;
 
 /// The stack that is lent: more than that, so that a call which goes deeper is seen and does no harm.
 const LENT: usize = 2 * 1024 * 1024;
+
+/// Passes of a quota, more than a run needs.
+const PASSES: usize = MAX_PARTS * MAX_SIDE * MAX_SIDE + 1;
 
 /// What fills it before.
 const PAINT: u8 = 0xA5;
@@ -97,6 +100,16 @@ fn every_call(width: usize, make: impl Fn(&str, Accepted)) {
     make("load of three", &mut || {
         library::load_three(&mut job, &table, files, &mut one, &two).is_ok()
     });
+    let mut quota = QuotaRecord::new(4, PASSES, [1; 4]);
+    make("quota opened", &mut || {
+        library::open_quota(&mut quota).is_ok()
+    });
+    make("channel's pass", &mut || {
+        library::channel_pass(&mut job, &mut quota, 4, &mut one, &mut two).is_ok()
+    });
+    make("channel's run", &mut || {
+        library::channel_run(&mut job, &mut quota, 4, &mut one, &mut two).is_ok()
+    });
     make("preview", &mut || {
         library::preview(width, MAX_SIDE, &pixels, &mut two).is_ok()
     });
@@ -128,9 +141,10 @@ fn every_call_on_a_strip(width: usize, make: impl Fn(&str, Accepted)) {
     let mut job = JobRecord::EMPTY;
     let (mut one, mut two) = (vec![0; pixels.len()], vec![0; pixels.len()]);
     let mut out = vec![0; MAX_PARTS * (11 + 32 * MAX_SIDE)];
-    make("load of a strip", &mut || {
-        library::load_strip(&mut job, &table, &strip, &pixels, &mut one, &two).is_ok()
-    });
+    let load = |job: &mut JobRecord, one: &mut [u8], two: &[u8]| {
+        library::load_strip(job, &table, &strip, &pixels, one, two).is_ok()
+    };
+    make("load of a strip", &mut || load(&mut job, &mut one, &two));
     // the second one counts before it writes
     for name in ["pass over a strip", "second pass over a strip"] {
         make(name, &mut || {
@@ -148,6 +162,19 @@ fn every_call_on_a_strip(width: usize, make: impl Fn(&str, Accepted)) {
     });
     make("collect of a strip", &mut || {
         library::collect(&mut job, &one, &two, &mut out).is_ok()
+    });
+    let mut quota = QuotaRecord::new(1, PASSES, [PASSES, 0, 0, 0]);
+    assert!(library::open_quota(&mut quota).is_ok() && load(&mut job, &mut one, &two));
+    for name in [
+        "channel's pass over a strip",
+        "channel's second pass over a strip",
+    ] {
+        make(name, &mut || {
+            library::channel_pass(&mut job, &mut quota, 1, &mut one, &mut two).is_ok()
+        });
+    }
+    make("channel's run over a strip", &mut || {
+        library::channel_run(&mut job, &mut quota, 1, &mut one, &mut two).is_ok()
     });
 }
 

@@ -3,12 +3,13 @@
 
 mod common;
 
+use common::channels::{any_quota, CALLS};
 use common::{reasons, report, shares, State, Stock, Tally};
 use mask_cleaner::cases::{cobbles, random_cut, random_image, random_table, ring, Kind, Random};
-use mask_cleaner::model::{Answer, Call};
+use mask_cleaner::model::{Answer, Call, ChannelCall};
 use mask_cleaner::record::{
-    JobRecord, Progress, Reason, Refusal, StripRecord, TableRecord, MAX_PARTS, MAX_RANKS, MAX_SIDE,
-    PLACES, STAGE_LOADED, STAGE_STABLE,
+    JobRecord, Progress, Reason, Refusal, StripRecord, TableRecord, MAX_CHANNELS, MAX_PARTS,
+    MAX_RANKS, MAX_SIDE, PLACES, STAGE_LOADED, STAGE_STABLE,
 };
 use mask_cleaner::reference::image::{file_of, Image};
 use mask_cleaner::reference::pass::{changes, one_pass};
@@ -330,7 +331,7 @@ fn empty_with_field(random: &mut Random) -> JobRecord {
     record
 }
 
-/// Each of the eight calls on copies of a state.
+/// Each of the ten calls on copies of a state, a channel's with a quota that has the channel.
 fn try_all(state: &State, random: &mut Random, tally: &mut Tally) {
     let load = Call::Load {
         table: random_table(random, 3),
@@ -364,6 +365,16 @@ fn try_all(state: &State, random: &mut Random, tally: &mut Tally) {
         let keeps_passes = matches!(call, Call::Run);
         if answer.is_err() && !keeps_passes {
             assert_eq!(copy, *state, "a refused call alters nothing");
+        }
+    }
+    for call in CALLS {
+        let (mut copy, channels) = (state.clone(), 1 + random.below(MAX_CHANNELS));
+        let handed = any_quota(channels, random);
+        let (mut quota, channel) = (handed, 1 + random.below(channels));
+        let answer = tally.note(copy.apply_channel_both(call, &mut quota, channel));
+        let keeps_passes = call == ChannelCall::Run;
+        if answer.is_err() && !keeps_passes {
+            assert_eq!((&copy, quota), (state, handed), "nor its quota");
         }
     }
 }

@@ -5,18 +5,24 @@
 --     ofImageRead x    and the image's width and height
 --     ofPassed p       and 1 for 01's "at rest", 0 for "changed"
 --     ofFigured x      and balance and cover
+--     ofOpened x       and the quota, also where it is refused
+--     ofMetered x      and 1 for "at rest", 0 for "changed", and the quota, also where it is refused
 -- Assumes nothing.
+use Rattle.capi.specs.declared.ChannelProgress.{ChannelProgress}
 use Rattle.capi.specs.declared.Checked.{Checked}
 use Rattle.capi.specs.declared.FiguresAnswer.{FiguresAnswer}
 use Rattle.capi.specs.declared.FileLength.{FileLength}
 use Rattle.capi.specs.declared.ImageSize.{ImageSize}
 use Rattle.capi.specs.declared.Progress.{Progress}
+use Rattle.capi.specs.declared.QuotaAnswer.{QuotaAnswer}
 use Rattle.capi.specs.declared.TableAnswer.{TableAnswer}
 use Rattle.history.specs.Answers.{passedVerdict, passedStable, figuredVerdict, figuredBalance, figuredCover}
 use Rattle.history.specs.declared.Figured.{Figured}
 use Rattle.history.specs.declared.Passed.{Passed}
 use Rattle.image.specs.Answers.{readVerdict, readWidth, readHeight}
 use Rattle.image.specs.declared.ImageRead.{ImageRead}
+use Rattle.job.specs.declared.channel.Metered.{Metered}
+use Rattle.job.specs.declared.quota.Opened.{Opened}
 use Rattle.table.specs.declared.TableRead.{TableRead}
 use Rattle.verdict.specs.Answers.{said, writtenVerdict, writtenLength}
 use Rattle.verdict.specs.declared.Verdict.{Verdict}
@@ -39,3 +45,9 @@ ofPassed p = record { checked = ofVerdict (passedVerdict p); stable = passedStab
 
 abbrev pub ofFigured : Figured → FiguresAnswer
 ofFigured x = record { checked = ofVerdict (figuredVerdict x); balance = figuredBalance x; cover = figuredCover x }
+
+abbrev pub ofOpened : Opened → QuotaAnswer
+ofOpened x = record { checked = ofVerdict (x .answer); quota = x .quota }
+
+abbrev pub ofMetered : Metered → ChannelProgress
+ofMetered x = record { checked = ofVerdict (passedVerdict (x .answer)); stable = passedStable (x .answer); quota = x .quota }

@@ -1,12 +1,15 @@
 -- The calls that alter a job, on the record by value: the answer for C, and the record afterwards.
---     loadedBy v s, passedBy o, collectedBy w s
+--     loadedBy v s, passedBy o, collectedBy w s, meteredBy o
 -- Assumes nothing.
 use Rattle.capi.specs.declared.calls.CollectedBy.{CollectedBy}
 use Rattle.capi.specs.declared.calls.LoadedBy.{LoadedBy}
+use Rattle.capi.specs.declared.calls.MeteredBy.{MeteredBy}
 use Rattle.capi.specs.declared.calls.PassedBy.{PassedBy}
-use Rattle.capi.specs.Answers.{ofVerdict, ofPassed, ofWritten}
+use Rattle.capi.specs.Answers.{ofVerdict, ofPassed, ofWritten, ofMetered}
+use Rattle.history.specs.Channel.{ChannelOutcome}
 use Rattle.history.specs.Pass.{Outcome}
 use Rattle.history.specs.State.{State}
+use Rattle.job.specs.Channels.{metered}
 use Rattle.verdict.specs.declared.Verdict.{Verdict}
 use Rattle.verdict.specs.declared.Written.{Written}
 
@@ -18,3 +21,6 @@ passedBy o = record { answer = ofPassed (o .answer); job = o .state .job }
 
 abbrev pub collectedBy : Written → State → CollectedBy
 collectedBy w s = record { answer = ofWritten w; job = s .job }
+
+abbrev pub meteredBy : ChannelOutcome → MeteredBy
+meteredBy o = record { answer = ofMetered (metered o); job = o .state .job }

@@ -1,18 +1,23 @@
-// The libraries' answers as C structs. Each starts with what is said of a refusal: number 0 is "accepted"; else all that follows is zero.
+// The libraries' answers as C structs. Each starts with what is said of a refusal: number 0 is "accepted"; else all that follows is zero, but for
+// a quota, which comes back also where it is refused.
+use crate::ChannelProgress;
 use crate::Checked;
 use crate::FiguresAnswer;
 use crate::FileLength;
 use crate::ImageSize;
 use crate::Progress;
+use crate::QuotaAnswer;
 use crate::TableAnswer;
 use history::Figured;
 use history::Passed;
 use image::ImageRead;
+use job::channel::Metered;
+use job::quota::Opened;
 use table::TableRead;
 use verdict::Verdict;
 use verdict::Written;
 ghost use mathlib.Core.Path.{_≡_};
-ghost use Rattle.capi.specs.Answers.{ofVerdict, ofTableRead, ofWritten, ofImageRead, ofPassed, ofFigured};
+ghost use Rattle.capi.specs.Answers.{ofVerdict, ofTableRead, ofWritten, ofImageRead, ofPassed, ofFigured, ofOpened, ofMetered};
 
 // The number of an answer that refuses nothing.
 const ACCEPTED: u32 = 0;
@@ -116,5 +121,30 @@ pub(crate) fn of_figured(figured: Figured) -> FiguresAnswer
             balance: 0,
             cover: 0,
         },
+    }
+}
+
+pub(crate) fn of_opened(opened: Opened) -> QuotaAnswer
+    ensures { λ r. ⌜ r ≡ ofOpened opened ⌝ }
+{
+    let answer = opened.answer;
+    let quota = opened.quota;
+    QuotaAnswer {
+        checked: of_verdict(answer),
+        quota,
+    }
+}
+
+pub(crate) fn of_metered(metered: Metered) -> ChannelProgress
+    ensures { λ r. ⌜ r ≡ ofMetered metered ⌝ }
+{
+    let answer = metered.answer;
+    let quota = metered.quota;
+    let progress = of_passed(answer);
+    let checked = progress.checked;
+    ChannelProgress {
+        checked,
+        stable: progress.stable,
+        quota,
     }
 }

@@ -1,14 +1,17 @@
 // The calls that alter a job, on the record by value: the answer for C, and the record afterwards.
+use crate::ChannelProgress;
 use crate::Checked;
 use crate::FileLength;
 use crate::Progress;
 use crate::answers;
 use history::Job;
+use history::Quota;
 use image::strip::Strip;
 use table::Table;
 ghost use mathlib.Core.Path.{_≡_};
 ghost use lib.ListN.{length};
-ghost use Rattle.capi.specs.Calls.{loadedBy, passedBy, collectedBy};
+ghost use Rattle.capi.specs.Calls.{loadedBy, passedBy, collectedBy, meteredBy};
+ghost use Rattle.history.specs.Channel.{channelPassOf, channelRunOf};
 ghost use Rattle.history.specs.Collect.{collectWritten, collectOutput, collectState};
 ghost use Rattle.history.specs.Load.{loadVerdict, loadState};
 ghost use Rattle.history.specs.Pass.{passOf};
@@ -28,6 +31,11 @@ pub struct PassedBy {
 
 pub struct CollectedBy {
     pub answer: FileLength,
+    pub job: Job,
+}
+
+pub struct MeteredBy {
+    pub answer: ChannelProgress,
     pub job: Job,
 }
 
@@ -136,6 +144,46 @@ pub(crate) fn collect<'a>(
     let job = collected.job;
     CollectedBy {
         answer: answers::of_written(answer),
+        job,
+    }
+}
+
+pub(crate) fn channel_pass(
+    job: Job,
+    quota: Quota,
+    channel: usize,
+    first: &mut [u8],
+    second: &mut [u8],
+) -> MeteredBy
+    ensures { λ r. ⌜ (r ≡ meteredBy (channelPassOf quota channel (at job (now (first .entry)) (now (second .entry)))))
+        × (now (first .exit) ≡ channelPassOf quota channel (at job (now (first .entry)) (now (second .entry))) .state .first)
+        × (now (second .exit) ≡ channelPassOf quota channel (at job (now (first .entry)) (now (second .entry))) .state .second) ⌝ }
+{
+    let stepped = job::channel::pass_core(job, quota, channel, first, second);
+    let answer = stepped.answer;
+    let job = stepped.job;
+    MeteredBy {
+        answer: answers::of_metered(answer),
+        job,
+    }
+}
+
+pub(crate) fn channel_run(
+    job: Job,
+    quota: Quota,
+    channel: usize,
+    first: &mut [u8],
+    second: &mut [u8],
+) -> MeteredBy
+    ensures { λ r. ⌜ (r ≡ meteredBy (channelRunOf quota channel (at job (now (first .entry)) (now (second .entry)))))
+        × (now (first .exit) ≡ channelRunOf quota channel (at job (now (first .entry)) (now (second .entry))) .state .first)
+        × (now (second .exit) ≡ channelRunOf quota channel (at job (now (first .entry)) (now (second .entry))) .state .second) ⌝ }
+{
+    let stepped = job::channel::run_core(job, quota, channel, first, second);
+    let answer = stepped.answer;
+    let job = stepped.job;
+    MeteredBy {
+        answer: answers::of_metered(answer),
         job,
     }
 }

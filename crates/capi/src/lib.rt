@@ -3,16 +3,18 @@ mod answers;
 mod calls;
 
 use history::Job;
+use history::Quota;
 use image::strip::Strip;
 use table::Table;
 use verdict::Verdict;
 ghost use mathlib.Core.Bool.{cond};
 ghost use mathlib.Core.Path.{_≡_};
 ghost use lib.ListN.{length};
-ghost use Rattle.capi.specs.Answers.{ofVerdict, ofTableRead, ofWritten, ofImageRead, ofPassed, ofFigured};
+ghost use Rattle.capi.specs.Answers.{ofVerdict, ofTableRead, ofWritten, ofImageRead, ofPassed, ofFigured, ofOpened, ofMetered};
 ghost use Rattle.capi.specs.Part.{partOf, Shows};
 ghost use Rattle.filter.specs.Previewed.{previewVerdict, previewArea};
 ghost use Rattle.history.specs.Call.{view, figures, stateOf};
+ghost use Rattle.history.specs.Channel.{channelPassOf, channelRunOf};
 ghost use Rattle.history.specs.Collect.{collectWritten, collectOutput, collectState};
 ghost use Rattle.history.specs.Load.{loadVerdict, loadState};
 ghost use Rattle.history.specs.Pass.{passOf};
@@ -21,11 +23,13 @@ ghost use Rattle.history.specs.Source.{fromFile, fromThree, fromStrip};
 ghost use Rattle.history.specs.State.{even};
 ghost use Rattle.history.specs.View.{figuresOf};
 ghost use Rattle.image.specs.File.{imageRead, imageArea, imageWritten, imageOutput};
+ghost use Rattle.job.specs.Channels.{opened, metered};
 ghost use Rattle.job.specs.Core.{at};
 ghost use Rattle.table.specs.File.{readTable, writtenTable, tableOutput};
 ghost use Rattle.table.specs.Record.{recordVerdict};
 
-// What every answer for C starts with. Number 0 is "accepted"; else it is the refusal, and all that follows is zero.
+// What every answer for C starts with. Number 0 is "accepted"; else it is the refusal, and all that follows is zero,
+// but for a quota.
 #[repr(C)]
 pub struct Checked {
     pub number: u32,
@@ -73,6 +77,20 @@ pub struct FiguresAnswer {
     pub checked: Checked,
     pub balance: i64,
     pub cover: usize,
+}
+
+// The quota afterwards comes back in every answer, also in a refused one (02, T-10).
+#[repr(C)]
+pub struct QuotaAnswer {
+    pub checked: Checked,
+    pub quota: Quota,
+}
+
+#[repr(C)]
+pub struct ChannelProgress {
+    pub checked: Checked,
+    pub stable: u32,
+    pub quota: Quota,
 }
 
 const FIRST: u32 = 1;
@@ -267,6 +285,49 @@ pub extern "C" fn mask_collect<'a>(
         × (collectState (length (now (out .entry))) (at (now (job .entry)) (now (first .entry)) (now (second .entry))) .second ≡ now (second .entry)) ⌝ }
 {
     let s = calls::collect(*job, first, second, out);
+    *job = s.job;
+    s.answer
+}
+
+#[no_mangle]
+pub extern "C" fn mask_quota_open(quota: Quota) -> QuotaAnswer
+    ensures { λ r. ⌜ r ≡ ofOpened (opened quota) ⌝ }
+{
+    answers::of_opened(job::quota::open(quota))
+}
+
+#[no_mangle]
+pub extern "C" fn mask_channel_pass(
+    job: &mut Job,
+    quota: Quota,
+    channel: usize,
+    first: &mut [u8],
+    second: &mut [u8],
+) -> ChannelProgress
+    ensures { λ r. ⌜ (r ≡ ofMetered (metered (channelPassOf quota channel (at (now (job .entry)) (now (first .entry)) (now (second .entry))))))
+        × (now (job .exit) ≡ channelPassOf quota channel (at (now (job .entry)) (now (first .entry)) (now (second .entry))) .state .job)
+        × (now (first .exit) ≡ channelPassOf quota channel (at (now (job .entry)) (now (first .entry)) (now (second .entry))) .state .first)
+        × (now (second .exit) ≡ channelPassOf quota channel (at (now (job .entry)) (now (first .entry)) (now (second .entry))) .state .second) ⌝ }
+{
+    let s = calls::channel_pass(*job, quota, channel, first, second);
+    *job = s.job;
+    s.answer
+}
+
+#[no_mangle]
+pub extern "C" fn mask_channel_run(
+    job: &mut Job,
+    quota: Quota,
+    channel: usize,
+    first: &mut [u8],
+    second: &mut [u8],
+) -> ChannelProgress
+    ensures { λ r. ⌜ (r ≡ ofMetered (metered (channelRunOf quota channel (at (now (job .entry)) (now (first .entry)) (now (second .entry))))))
+        × (now (job .exit) ≡ channelRunOf quota channel (at (now (job .entry)) (now (first .entry)) (now (second .entry))) .state .job)
+        × (now (first .exit) ≡ channelRunOf quota channel (at (now (job .entry)) (now (first .entry)) (now (second .entry))) .state .first)
+        × (now (second .exit) ≡ channelRunOf quota channel (at (now (job .entry)) (now (first .entry)) (now (second .entry))) .state .second) ⌝ }
+{
+    let s = calls::channel_run(*job, quota, channel, first, second);
     *job = s.job;
     s.answer
 }

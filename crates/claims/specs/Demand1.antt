@@ -19,7 +19,7 @@ use Rattle.history.specs.declared.Passed.the-variants as passing
 use Rattle.history.specs.Call.{Call, load, pass, run, view, figures, collect, isLoad, isRun, isCollect, passed, shown, figured, collected, answerOf, stateOf, refusalOf}
 use Rattle.history.specs.Collect as collecting
 use Rattle.history.specs.declared.Figured.the-variants as figuring
-use Rattle.history.specs.Demand1.{afterPasses, stateNumbers, Cause, unsound, stopped, not-collected, nothing-loaded, not-at-rest, reach}
+use Rattle.history.specs.Demand1.{afterPasses, quotaRule, stateNumbers, placed, Cause, unsound, stopped, not-collected, nothing-loaded, not-at-rest, reach}
 use Rattle.history.specs.Lists.{lengthsOf}
 use Rattle.history.specs.Load.{areasRule}
 use Rattle.history.specs.Pass.{passOf}
@@ -30,7 +30,7 @@ use Rattle.history.specs.State.{State, pixels}
 use Rattle.table.specs.declared.Table.{Table}
 use Rattle.table.specs.Record.{recordVerdict}
 use Rattle.verdict.specs.declared.Refusal.{Refusal}
-use Rattle.verdict.specs.declared.Verdict.the-variants.{Refused}
+use Rattle.verdict.specs.declared.Verdict.the-variants.{Accepted, Refused}
 use Rattle.verdict.specs.declared.Written.the-variants as writing
 use Rattle.verdict.specs.Numbers.{among}
 use Rattle.verdict.specs.Rules.{refusal, refuseIf, judge}
@@ -67,23 +67,23 @@ module _ (s : State) where
   pub run-answers : runOf s .answer ≢ passing.Changed
   run-answers = demand-1 .run-ends s .ends
 
--- 14 to 17, each under its condition
+-- 14 to 17, each under its condition; 24 and 25, and what comes of them: claims/Rounds. Of a channel's call only 25 comes before 14
 module _ (c : Call) (s : State) where
-  pub unsound-refused : Unsound s → refusalOf (answerOf c s) ≡ Refused (refusal 14 0)
-  unsound-refused u = demand-1 .given c s 14 (unsound u)
+  pub unsound-refused : quotaRule c ≡ Accepted → Unsound s → refusalOf (answerOf c s) ≡ Refused (refusal 14 0)
+  unsound-refused k u = demand-1 .given c s 14 (unsound k u)
 
   module _ (sound : Unsound s → ⊥) where
     pub not-collected-refused : isLoad c ≡ true → s .job .stage ≢ 0 → refusalOf (answerOf c s) ≡ Refused (refusal 15 0)
     not-collected-refused l z = demand-1 .given c s 15 (not-collected sound l z)
 
-    pub nothing-loaded-refused : isLoad c ≡ false → s .job .stage ≡ 0 → refusalOf (answerOf c s) ≡ Refused (refusal 16 0)
-    nothing-loaded-refused l z = demand-1 .given c s 16 (nothing-loaded sound l z)
+    pub nothing-loaded-refused : quotaRule c ≡ Accepted → isLoad c ≡ false → s .job .stage ≡ 0 → refusalOf (answerOf c s) ≡ Refused (refusal 16 0)
+    nothing-loaded-refused k l z = demand-1 .given c s 16 (nothing-loaded k sound l z)
 
     pub not-at-rest-refused : isCollect c ≡ true → s .job .stage ≡ 1 → refusalOf (answerOf c s) ≡ Refused (refusal 17 0)
     not-at-rest-refused l z = demand-1 .given c s 17 (not-at-rest sound l z)
 
   -- and under no other
-  pub by-cause : (r : Refusal) → refusalOf (answerOf c s) ≡ Refused r → among stateNumbers (r .number) ≡ true → Cause c s (r .number) × (r .place ≡ 0)
+  pub by-cause : (r : Refusal) → refusalOf (answerOf c s) ≡ Refused r → among stateNumbers (r .number) ≡ true → Cause c s (r .number) × (r .place ≡ placed c (r .number))
   by-cause = demand-1 .only c s
 
   pub by-state : (r : Refusal) → isLoad c ≡ false → isCollect c ≡ false → refusalOf (answerOf c s) ≡ Refused r → among stateNumbers (r .number) ≡ true

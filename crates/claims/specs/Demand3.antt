@@ -25,7 +25,7 @@ use Rattle.history.specs.Answered.{restIf, figuresBy, answeredBy}
 use Rattle.history.specs.Call.{Call, load, pass, run, view, figures, collect, passed, shown, figured, collected, answerOf, stateOf, refusalOf}
 use Rattle.history.specs.Demand3.{AfterList}
 use Rattle.history.specs.History as book
-use Rattle.history.specs.History.{Entry, empty, holds, Lengths, filesOf, refusedBy}
+use Rattle.history.specs.History.{Entry, empty, holds, Lengths, filesOf, refusedBy, barredBy}
 use Rattle.history.specs.Lists.{Course, start, lengthsOf, step, play, uncollected, firstOf, overSteps}
 use Rattle.history.specs.Source.{fromFile}
 use Rattle.history.specs.State.{State}
@@ -73,7 +73,9 @@ module _ (cs : List Call) (a b : List ℕ) where
     pub never-14 : (r : Refusal) → refusalOf (answerOf c (state cs a b)) ≡ Refused r → r .number ≢ 14
     never-14 = demand-3 .after-list cs a b .never-14 c
 
-    pub refused-unaltered : (r : Refusal) → refusalOf (answerOf c (state cs a b)) ≡ Refused r → stateOf c (state cs a b) ≡ state cs a b
+    -- a channel's run that 24 stops on its way keeps its finished passes (claims/Rounds)
+    pub refused-unaltered : (r : Refusal) → barredBy c (lengthsOf (start a b .state)) (course cs a b .history) ≡ Refused r
+        → stateOf c (state cs a b) ≡ state cs a b
     refused-unaltered = demand-3 .after-list cs a b .unaltered c
 
   -- where the history holds an entry

@@ -10,6 +10,7 @@ pub mod Demand3
 pub mod Operator
 pub mod Padding
 pub mod Ranks
+pub mod Rounds
 pub mod Strips
 pub mod Trials
 pub mod Walk

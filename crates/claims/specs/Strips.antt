@@ -24,7 +24,7 @@ use Rattle.history.specs.Call.{Call, load, pass, run, collect, passed, collecte
 use Rattle.history.specs.Cases as cases
 use Rattle.history.specs.Cases.{emptyWith, white, badStrips, strips-met, partJob, soundStrip, soundCounts, badPartJobs, parts-unsound-met, seamRan, seamFiles, part-counts-met, part-files-met}
 use Rattle.history.specs.Collect as collecting
-use Rattle.history.specs.Demand1.{unsound}
+use Rattle.history.specs.Demand1.{quotaRule, unsound}
 use Rattle.history.specs.History.{Entry, holds}
 use Rattle.history.specs.Lists.{Course, step, play, uncollected, firstOf, overSteps}
 use Rattle.history.specs.Load.{admitRules, loadVerdict, loadedJob, loadState}
@@ -91,10 +91,10 @@ pub single-record : (t : Table) (f : List ℕ) (s : State) → loadVerdict t (fr
 unfolding loadState loadedJob
 single-record t f s e = rw e (refl, refl)
 
--- 14 at stage 1 and 2, of the parts of any record
-module _ (c : Call) (s : State) (held : s .job .stage ≢ 0) (staged : s .job .stage ≤ 2) where
+-- 14 at stage 1 and 2, of the parts of any record; of a channel's call only 25 comes before it
+module _ (c : Call) (s : State) (rule : quotaRule c ≡ Accepted) (held : s .job .stage ≢ 0) (staged : s .job .stage ≤ 2) where
   by-14 : Inconsistent s → refusalOf (answerOf c s) ≡ Refused (refusal 14 0)
-  by-14 x = demand-1 .given c s 14 (unsound (held-wrong held staged x))
+  by-14 x = demand-1 .given c s 14 (unsound rule (held-wrong held staged x))
 
   pub bad-shape : shapeVerdict (s .job .strip) ≢ Accepted → refusalOf (answerOf c s) ≡ Refused (refusal 14 0)
   bad-shape x = by-14 (wrong.bad-shape x)

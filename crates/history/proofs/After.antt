@@ -11,13 +11,16 @@ use Prim.Native.Nat.{ℕ, _*_}
 use native.Mathlib.Omega.{arith}
 use lib.ListN.{length, getD}
 use Rattle.history.specs.declared.Job.{Job}
-use Rattle.history.specs.Demand3.{Agrees, RunAsPasses, AfterList}
-use Rattle.history.specs.History.{Entry, History, empty, holds, Lengths}
+use Rattle.history.specs.declared.Quota.{Quota}
+use Rattle.history.specs.Demand3.{Agrees, RunAsPasses, ChannelAsPasses, AfterList}
+use Rattle.history.specs.History.{Entry, History, empty, holds, Lengths, barredBy}
 use Rattle.history.specs.Lists.{Course, lengthsOf, overSteps}
+use Rattle.history.specs.Quota.{channelRule}
 use Rattle.history.specs.State.{State, emptyJob}
+use Rattle.history.proofs.Channel.{channel-as-passes}
 use Rattle.history.proofs.Never14.{never-14}
 use Rattle.history.proofs.Pass.{last-image}
-use Rattle.history.proofs.Refused.{answered, refused, unaltered}
+use Rattle.history.proofs.Refused.{answered, refused, unaltered, quota-back}
 use Rattle.history.proofs.Related.{stageOf, stepCounts, Held, RelatedTo, Related}
 use Rattle.history.proofs.Row.{row-bound, row-single, row-balance}
 use Rattle.history.proofs.Run.{run-as-passes}
@@ -28,6 +31,7 @@ use Rattle.image.specs.Strip.{maxParts, stripOf}
 use Rattle.operator.specs.Parts.{addedIn, removedIn}
 use Rattle.seq.proofs.Tab.{getD-tab}
 use Rattle.seq.specs.Lists.{sumOf}
+use Rattle.verdict.specs.declared.Verdict.the-variants.{Accepted}
 
 -- what part i gained and lost, over all steps
 abbrev steps-added : Entry → ℕ → ℕ
@@ -106,6 +110,11 @@ run-from w r e q =
     subst (λ (H : History). RunAsPasses (record { state = w .state; history = H; tally = w .tally }) e) (sym q)
     (run-as-passes (held w r e q))
 
+channel-from : (w : Course) → Related w → (e : Entry) → w .history ≡ holds e → (c : Quota) (i : ℕ) → channelRule c i ≡ Accepted → ChannelAsPasses w e c i
+channel-from w r e q c i k =
+    subst (λ (H : History). ChannelAsPasses (record { state = w .state; history = H; tally = w .tally }) e c i) (sym q)
+    (channel-as-passes c i k (held w r e q))
+
 pub after-related : (n : Lengths) (w : Course) → Related w → lengthsOf (w .state) ≡ n → AfterList n w
 after-related n w r l = record {
   lengths = l;
@@ -118,5 +127,7 @@ after-related n w r l = record {
   answered = λ c. rw l at (answered c (w .state) (w .history) (w .tally) r);
   refused = λ c. rw l at (refused c (w .state) (w .history) (w .tally) r);
   never-14 = λ c x q. never-14 c (lengthsOf (w .state)) (w .history) x (sym (refused c (w .state) (w .history) (w .tally) r) ∙ q);
-  unaltered = λ c x. unaltered c (w .state) (w .history) (w .tally) x r;
+  unaltered = λ c x b. unaltered c (w .state) (w .history) (w .tally) x r (ap (λ (k : Lengths). barredBy c k (w .history)) l ∙ b);
+  channel-as-passes = channel-from w r;
+  quota-back = λ c i. quota-back c i (w .state) (w .history) (w .tally) r;
 }

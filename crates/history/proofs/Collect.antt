@@ -10,7 +10,7 @@ use lib.Dec.{eqb}
 use lib.ListN.{length}
 use Rattle.history.specs.Call.{collect}
 use Rattle.history.specs.Collect.{collected, collectVerdict, collectAs, collectState}
-use Rattle.history.specs.History.{Entry, History, empty, holds, filesOf, refusedBy, accepted, afterAs, after}
+use Rattle.history.specs.History.{Entry, History, empty, holds, filesOf, refusedBy, barredBy, accepted, afterAs, after}
 use Rattle.history.specs.Lists.{lengthsOf, tallied, tallyAs}
 use Rattle.history.specs.State.{State, emptyJob}
 use Rattle.history.proofs.Related.{stageOf, Held, RelatedTo}
@@ -40,7 +40,7 @@ module _ {s : State} {e : Entry} {n : ℕ} (r : Held s e n) where
 pub collect-keeps : (out : List ℕ) (s : State) (H : History) (n : ℕ) → RelatedTo s H n
     → RelatedTo (collectState (length out) s) (after (collect out) (lengthsOf s) H)
     (tallyAs (refusedBy (collect out) (lengthsOf s) H) (collect out) H n)
-unfolding collectState after accepted tallied
+unfolding collectState after barredBy accepted tallied
 collect-keeps out s empty n q = rw (collect-empty out s q) (go (refusedBy (collect out) (lengthsOf s) empty))
   where
     go : (v : Verdict) → RelatedTo (collectAs v s) (afterAs v (collect out) empty) (tallyAs v (collect out) empty n)

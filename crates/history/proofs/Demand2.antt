@@ -10,7 +10,7 @@ use Rattle.history.specs.Sound.{Unsound}
 use Rattle.history.specs.State.{State}
 use Rattle.history.proofs.After.{held}
 use Rattle.history.proofs.Lists.{played-related}
-use Rattle.history.proofs.States.{sound}
+use Rattle.history.proofs.Overruns.{sound}
 use Rattle.history.proofs.Unsound.{sound-ready}
 use Rattle.history.proofs.View.{operated-ready, operated-held}
 use Rattle.image.proofs.RoundTrip.{image-round-trip}

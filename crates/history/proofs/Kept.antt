@@ -1,6 +1,6 @@
 -- What a call leaves of the areas: their lengths, and every byte past the image (01, The job).
 --     Stays n s u          from s to u the areas keep their lengths, and their bytes from n on
---     load-stays, pass-stays, run-stays     load, pass and run
+--     load-stays, pass-stays, run-stays     load, pass and run; channel-stays, channel-run-stays: a channel's pass and run
 --     kept                 the claim, for every call
 -- Assumes nothing.
 use mathlib.Core.Bool.{true, _||_}
@@ -13,20 +13,26 @@ use borrow.Author.Tests.{ltb-false}
 use lib.Dec.{ltb}
 use lib.ListN.{length, drop}
 use Rattle.history.specs.declared.Job.{Job}
-use Rattle.history.specs.Call.{Call, load, pass, run, view, figures, collect, isLoad, stateOf}
+use Rattle.history.specs.declared.Quota.{Quota}
+use Rattle.history.specs.Call.{Call, load, pass, run, view, figures, collect, channelPass, channelRun, isLoad, stateOf}
+use Rattle.history.specs.Channel.{channelPassOf, channelRunOf}
 use Rattle.history.specs.Collect.{collectVerdict, collectAs, collectState}
 use Rattle.history.specs.Demand1.{afterPasses, Goes, reach, Areas}
 use Rattle.history.specs.Lists.{lengthsOf}
 use Rattle.history.specs.Load.{loadRules, loadVerdict, loadAs, loadState}
 use Rattle.history.specs.Pass.{nextImage, withNext, changedJob, stableJob, passOf}
+use Rattle.history.specs.Quota.{chargedFor}
 use Rattle.history.specs.Run.{runOf}
 use Rattle.history.specs.Sound.{Ready}
 use Rattle.history.specs.Source.{Source, sourceVerdict, sourceWidth, sourceHeight, sourcePixels}
 use Rattle.history.specs.State.{State, pixels, even}
+use Rattle.history.proofs.ChannelPasses as ways
+use Rattle.history.proofs.ChannelPasses.{ChannelWay, channel-way}
+use Rattle.history.proofs.ChannelRuns.{ends-channel}
 use Rattle.history.proofs.Passes as passes
 use Rattle.history.proofs.Passes.{Way, way, changed}
 use Rattle.history.proofs.Ready.{ready-next}
-use Rattle.history.proofs.Runs.{goes-next, ends}
+use Rattle.history.proofs.Runs.{goes-next, goes-pixels, ends}
 use Rattle.history.proofs.Sources.{source-length}
 use Rattle.seq.proofs.Lists.{clash, either}
 use Rattle.seq.proofs.Tests.{or-none-left}
@@ -88,14 +94,36 @@ pass-stays s = by (way s)
     by (passes.changes r z d x p) = rw p (with-next (changedJob s) r)
     by (passes.stopped r z d x p) = rw p (same (pixels (s .job)) s)
 
--- a run is passes on as many pixels
+-- passes that change pixels, on as many of them
+before : (k : ℕ) (s : State) → Goes k s → Stays (pixels (s .job)) s (afterPasses k s)
+before zero s g = same (pixels (s .job)) s
+before (suc k) s g =
+    next (pass-stays s) (rw (changed s (g 0 (omega arith)) .same) at (before k (passOf s .state) (goes-next k s g)))
+
+-- a run is such passes, and one more
 passes-stay : (k : ℕ) (s : State) → Goes k s → Stays (pixels (s .job)) s (passOf (afterPasses k s) .state)
-passes-stay zero s g = pass-stays s
-passes-stay (suc k) s g =
-    next (pass-stays s) (rw (changed s (g 0 (omega arith)) .same) at (passes-stay k (passOf s .state) (goes-next k s g)))
+passes-stay k s g = next (before k s g) (rw (goes-pixels k s g) at (pass-stays (afterPasses k s)))
 
 run-stays : (s : State) → Stays (pixels (s .job)) s (runOf s .state)
 run-stays s = let x = ends s in rw (x .last) (passes-stay (x .finished) s (x .goes))
+
+-- a channel's pass alters nothing, or what a pass does
+channel-stays : (q : Quota) (i : ℕ) (s : State) → Stays (pixels (s .job)) s (channelPassOf q i s .state)
+channel-stays q i s = by (channel-way q i s)
+  where
+    by : ChannelWay q i s → Stays (pixels (s .job)) s (channelPassOf q i s .state)
+    by (ways.barred x e p) = rw p (same (pixels (s .job)) s)
+    by (ways.unready e x y p) = rw p (same (pixels (s .job)) s)
+    by (ways.spent-out e r z l p) = rw p (same (pixels (s .job)) s)
+    by (ways.resting e r z p) = rw p (same (pixels (s .job)) s)
+    by (ways.paying e r z l p) = rw p (pass-stays s)
+
+channel-run-stays : (q : Quota) (i : ℕ) (s : State) → Stays (pixels (s .job)) s (channelRunOf q i s .state)
+channel-run-stays q i s = let x = ends-channel q i s in rw (x .last) (by (x .finished) (x .goes))
+  where
+    by : (k : ℕ) → Goes k s → Stays (pixels (s .job)) s (channelPassOf (chargedFor k q i) i (afterPasses k s) .state)
+    by k g =
+        next (before k s g) (rw (goes-pixels k s g) at (channel-stays (chargedFor k q i) i (afterPasses k s)))
 
 -- an accepted load has an accepted source, and room in the first area
 load-source : (t : Table) (x : Source) (s : State) → loadVerdict t x s ≡ Accepted → sourceVerdict x ≡ Accepted
@@ -139,6 +167,8 @@ stays run s = run-stays s
 stays view s = same 0 s
 stays figures s = same 0 s
 stays (collect out) s = collect-stays (length out) s
+stays (channelPass q i) s = channel-stays q i s
+stays (channelRun q i) s = channel-run-stays q i s
 
 -- load fills the first area only
 load-second : (c : Call) (s : State) → isLoad c ≡ true → stateOf c s .second ≡ s .second
@@ -153,6 +183,8 @@ load-second run s l = clash l refl
 load-second view s l = clash l refl
 load-second figures s l = clash l refl
 load-second (collect out) s l = clash l refl
+load-second (channelPass q i) s l = clash l refl
+load-second (channelRun q i) s l = clash l refl
 
 pub kept : (c : Call) (s : State) → Areas c s
 unfolding lengthsOf

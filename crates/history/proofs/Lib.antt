@@ -3,12 +3,17 @@ pub mod Sources
 pub mod Areas
 pub mod Parts
 pub mod Ready
+pub mod Quotas
 pub mod Rounding
 pub mod Unsound
 pub mod Passes
 pub mod Runs
+pub mod ChannelPasses
+pub mod ChannelRuns
 pub mod Refusals
 pub mod Never14
+pub mod Overruns
+pub mod ChannelStates
 pub mod States
 pub mod Kept
 pub mod Demand1
@@ -20,6 +25,7 @@ pub mod Pass
 pub mod View
 pub mod Figures
 pub mod Run
+pub mod Channel
 pub mod Load
 pub mod Collect
 pub mod Refused
@@ -33,3 +39,4 @@ pub mod SameSource
 pub mod Padding
 pub mod Majority
 pub mod Witness
+pub mod Fleet

@@ -13,7 +13,7 @@ use borrow.Author.Tests.{ltb-false}
 use lib.Dec.{ltb}
 use lib.ListN.{length}
 use Rattle.history.specs.Call.{load}
-use Rattle.history.specs.History.{Entry, History, empty, holds, Lengths, entered, refusedBy, accepted, afterAs, after}
+use Rattle.history.specs.History.{Entry, History, empty, holds, Lengths, entered, refusedBy, barredBy, accepted, afterAs, after}
 use Rattle.history.specs.Lists.{lengthsOf, tallied, tallyAs}
 use Rattle.history.specs.Load.{areasRule, loadVerdict, loadedJob, loadAs, loadState}
 use Rattle.history.specs.Source.{Source, sourceVerdict, sourceWidth, sourceHeight, sourcePixels}
@@ -97,7 +97,7 @@ load-entered t x s y = let sized = source-image x (y .source) .sized in record {
 
 pub load-keeps : (t : Table) (x : Source) (s : State) (H : History) (n : ℕ) → RelatedTo s H n
     → RelatedTo (loadState t x s) (after (load t x) (lengthsOf s) H) (tallyAs (refusedBy (load t x) (lengthsOf s) H) (load t x) H n)
-unfolding loadState after accepted tallied
+unfolding loadState after barredBy accepted tallied
 load-keeps t x s empty n q = rw (load-empty t x s q) (go (refusedBy (load t x) (lengthsOf s) empty) refl)
   where
     go : (v : Verdict) → refusedBy (load t x) (lengthsOf s) empty ≡ v

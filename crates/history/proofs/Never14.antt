@@ -7,12 +7,14 @@ use mathlib.Core.Bool.{not}
 use mathlib.Core.List.{List, [], _∷_}
 use mathlib.Core.Logic.{_≢_}
 use mathlib.Core.Path.{_≡_, refl}
-use Prim.Native.Nat.{ℕ}
+use Prim.Native.Nat.{ℕ, _+_, _*_}
 use lib.Dec.{ltb}
 use lib.ListN.{length}
-use Rattle.history.specs.Call.{Call, load, pass, run, view, figures, collect}
-use Rattle.history.specs.History.{History, empty, holds, Lengths, filesOf, refusedBy}
+use Rattle.history.specs.Call.{Call, load, pass, run, view, figures, collect, channelPass, channelRun}
+use Rattle.history.specs.History.{History, empty, holds, Lengths, needed, filesOf, refusedBy}
+use Rattle.history.specs.declared.Quota.{Quota}
 use Rattle.history.specs.Load.{areasRule}
+use Rattle.history.specs.Quota.{lacks, channelRule, available}
 use Rattle.history.specs.Source.{Source, sourceVerdict}
 use Rattle.history.proofs.Refusals.{input-says}
 use Rattle.history.proofs.Sources.{source-numbers}
@@ -29,12 +31,16 @@ use Rattle.verdict.proofs.Numbers.{says-if, says-or, one-of-more, one-of-other}
 abbrev pub inputNumbers : List ℕ
 inputNumbers = 3 ∷ 4 ∷ 5 ∷ 6 ∷ 7 ∷ 9 ∷ 10 ∷ 11 ∷ 12 ∷ 13 ∷ 18 ∷ 23 ∷ 26 ∷ []
 
--- and because of the state, without 14
+-- and because of the state, without 14, or of the quota
 abbrev callNumbers : List ℕ
-callNumbers = 15 ∷ 16 ∷ 17 ∷ inputNumbers
+callNumbers = 15 ∷ 16 ∷ 17 ∷ 24 ∷ 25 ∷ inputNumbers
 
 pub load-numbers : (t : Table) (x : Source) (n m : ℕ) → OneOf inputNumbers (judge (recordVerdict t ∷ sourceVerdict x ∷ areasRule x n m ∷ []))
 load-numbers t x n m = input-says t x n m (one-of-more (record-numbers t) refl) (one-of-more (source-numbers x) refl) (by refl)
+
+channel-numbers : (q : Quota) (i : ℕ) → OneOf callNumbers (channelRule q i)
+unfolding channelRule
+channel-numbers q i = says-if (lacks q i) 25 0 (by refl)
 
 call-numbers : (c : Call) (n : Lengths) (H : History) → OneOf callNumbers (refusedBy c n H)
 unfolding refusedBy
@@ -52,6 +58,11 @@ call-numbers (collect out) n empty = refuses (by refl)
 call-numbers (collect out) n (holds e) =
     says-or (says-if (not (e .settled)) 17 0 (by refl))
     (says-or (says-if (ltb (length out) (length (filesOf e))) 13 0 (by refl)) accepts)
+call-numbers (channelPass q i) n empty = says-or (channel-numbers q i) (says-or (refuses (by refl)) accepts)
+call-numbers (channelPass q i) n (holds e) = says-or (channel-numbers q i) (says-or (says-if (ltb (available q i) (needed 1 e)) 24 i (by refl)) accepts)
+call-numbers (channelRun q i) n empty = says-or (channel-numbers q i) (says-or (refuses (by refl)) accepts)
+call-numbers (channelRun q i) n (holds e) =
+    says-or (channel-numbers q i) (says-or (says-if (ltb (available q i) (needed (e .width * e .height + 1) e)) 24 i (by refl)) accepts)
 
 pub never-14 : (c : Call) (n : Lengths) (H : History) (r : Refusal) → refusedBy c n H ≡ Refused r → r .number ≢ 14
 never-14 c n H r q = one-of-other (call-numbers c n H) refl q

@@ -70,6 +70,7 @@ way s = by (readyVerdict s) refl
 -- a pass that answers "changed" leaves the record ready, with one pass more and the same pixels
 pub record Changes (s : State) : Type 0 where
   pub before : Ready s
+  pub begun : s .job .stage ≡ 1
   pub state : passOf s .state ≡ withNext (changedJob s) s
   pub ready : Ready (passOf s .state)
   pub loaded : passOf s .state .job .stage ≡ 1
@@ -93,6 +94,7 @@ changed s e = by (way s)
     by (stopped r z d x p) = none (rw p at e)
     by (changes r z d x p) = record {
       before = r;
+      begun = z;
       state = here;
       ready = rw here (ready-changed r x);
       loaded = ap (λ (j : Job). j .stage) job;

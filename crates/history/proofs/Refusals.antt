@@ -12,14 +12,18 @@ use lib.Dec.{ltb, eqb}
 use lib.ListN.{length}
 use Rattle.history.specs.declared.Passed.{Passed}
 use Rattle.history.specs.declared.Passed.the-variants as passing
+use Rattle.history.specs.declared.Quota.{Quota}
 use Rattle.history.specs.Answers.{passedVerdict}
-use Rattle.history.specs.Call.{Call, load, pass, run, view, figures, collect, isRun, answerOf, stateOf, refusalOf, refusing, passed}
+use Rattle.history.specs.Call.{Call, load, pass, run, view, figures, collect, channelPass, channelRun, isRun, answerOf, stateOf, refusalOf, refusing, passed}
+use Rattle.history.specs.Channel.{ChannelOutcome, channelPassOf}
 use Rattle.history.specs.Collect.{collected, collectVerdict, collectWritten, collectOutput, collectState}
 use Rattle.history.specs.Load.{areasRule, loadVerdict, loadState}
 use Rattle.history.specs.Pass.{Outcome, passOf}
 use Rattle.history.specs.Source.{Source, sourceVerdict, sourceWidth, sourceHeight}
 use Rattle.history.specs.State.{State, unsound, readyVerdict}
 use Rattle.history.specs.View.{viewOf, figuresOf}
+use Rattle.history.proofs.ChannelPasses as ways
+use Rattle.history.proofs.ChannelPasses.{ChannelWay, channel-way}
 use Rattle.history.proofs.Passes as passes
 use Rattle.history.proofs.Passes.{Way, way}
 use Rattle.seq.proofs.Lists.{clash}
@@ -80,6 +84,8 @@ module _ (s : State) {r : Refusal} where
   zeroed view q = rw q
   zeroed figures q = rw (figured-refused s q)
   zeroed (collect out) q = rw (collect-refused out q)
+  zeroed (channelPass c i) q = ap passed (passed-refused _ q)
+  zeroed (channelRun c i) q = ap passed (passed-refused _ q)
 
   -- a pass that is refused goes one of two ways
   pass-unaltered : refusalOf (answerOf pass s) ≡ Refused r → passOf s .state ≡ s
@@ -93,6 +99,19 @@ module _ (s : State) {r : Refusal} where
       by (passes.changes x z d e p) = refused-accepted q (rw p)
       by (passes.stopped x z d e p) = ap (λ (o : Outcome). o .state) p
 
+  channel-unaltered : (c : Quota) (i : ℕ) → refusalOf (answerOf (channelPass c i) s) ≡ Refused r → channelPassOf c i s .state ≡ s
+  unfolding answerOf
+  channel-unaltered c i q = by (channel-way c i s)
+    where
+      by : ChannelWay c i s → channelPassOf c i s .state ≡ s
+      by (ways.barred x e p) = ap (λ (o : ChannelOutcome). o .state) p
+      by (ways.unready e x y p) = ap (λ (o : ChannelOutcome). o .state) p
+      by (ways.spent-out e x z l p) = ap (λ (o : ChannelOutcome). o .state) p
+      by (ways.resting e x z p) = ap (λ (o : ChannelOutcome). o .state) p
+      by (ways.paying e x z l p) =
+          ap (λ (o : ChannelOutcome). o .state) p
+          ∙ pass-unaltered (sym (ap (λ (o : ChannelOutcome). passedVerdict (o .answer)) p) ∙ q)
+
   pub unaltered : (c : Call) → isRun c ≡ false → refusalOf (answerOf c s) ≡ Refused r → stateOf c s ≡ s
   unfolding answerOf stateOf loadState collectState
   unaltered (load t x) n q = rw q
@@ -101,3 +120,5 @@ module _ (s : State) {r : Refusal} where
   unaltered view n q = refl
   unaltered figures n q = refl
   unaltered (collect out) n q = rw (collect-refused out q)
+  unaltered (channelPass c i) n q = channel-unaltered c i q
+  unaltered (channelRun c i) n q = clash refl n

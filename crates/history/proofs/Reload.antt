@@ -12,18 +12,20 @@ use Prim.Native.Nat.{ℕ, zero, suc, _+_, _*_}
 use native.Mathlib.Nat.{add-zero}
 use native.Mathlib.Omega.{arith}
 use borrow.Author.Tests.{not-false, le-ltb}
-use lib.ListN.{length, take}
+use lib.ListN.{length, take, replicate}
 use Rattle.operator.specs.Image.{differs}
 use Rattle.operator.specs.Pass.{Stable}
 use Rattle.history.specs.Answered.{answeredBy}
-use Rattle.history.specs.Call.{Call, load, pass, run, view, figures, collect, isCollect, collected, answerOf, stateOf, refusalOf}
+use Rattle.history.specs.Call.{Call, load, pass, run, view, figures, collect, channelPass, channelRun, isCollect, collected, answerOf, stateOf, refusalOf}
 use Rattle.history.specs.Collect.{collectState}
 use Rattle.history.specs.Demand3.{Rests, Reloads}
-use Rattle.history.specs.History.{Entry, History, empty, holds, Lengths, entered, nextOf, joined, marked, passed, passedFor, ran, filesOf, refusedBy, accepted, afterAs, after}
+use Rattle.history.specs.History.{Entry, History, empty, holds, Lengths, entered, nextOf, joined, marked, passed, passedFor, ran, filesOf, made, refusedBy, barredBy, accepted, afterAs, after}
 use Rattle.history.specs.Lists.{Course, lengthsOf, tallied, step, play, uncollected, firstOf}
+use Rattle.history.specs.Quota.{channelRule}
 use Rattle.history.specs.Source.{Source, fromFile, fromStrip, sourceVerdict, sourceWidth, sourceHeight, sourcePixels}
 use Rattle.history.specs.State.{State, emptyJob}
 use Rattle.history.proofs.After.{held}
+use Rattle.history.proofs.Channel.{plays-passes, channel-as-passes}
 use Rattle.history.proofs.Collect.{collect-held}
 use Rattle.history.proofs.Kept.{kept}
 use Rattle.history.proofs.Lists.{keeps, play-related}
@@ -91,10 +93,14 @@ record Keeps (e : Entry) (w : Course) : Type 0 where
   held-by : w .history ≡ holds entry
   like : Same e entry
 
--- so it does after a call that is no accepted collect
+-- so it does after passes
+kept-for : (j : ℕ) {s : State} {e : Entry} {n : ℕ} → Held s e n → {w : Course} → w ≡ play (replicate j pass) (course s e n) → Keeps e w
+kept-for j {s} {e} {n} r p = record { entry = passedFor j e; held-by = ap (λ (v : Course). v .history) (p ∙ plays-passes j s e n); like = same-for j e }
+
+-- and after a call that is no accepted collect
 keeps-call : (c : Call) {s : State} {e : Entry} {n : ℕ} → Held s e n → not (isCollect c && isAccepted (refusalOf (answerOf c s))) ≡ true
     → Keeps e (step c (course s e n))
-unfolding step after refusedBy accepted
+unfolding step after barredBy refusedBy accepted
 keeps-call (load t x) {s} {e} r u = record { entry = e; held-by = refl; like = same e }
 keeps-call pass {s} {e} r u = record { entry = passed e; held-by = refl; like = same-passed e }
 keeps-call run {s} {e} r u = record { entry = ran e; held-by = refl; like = same-ran e }
@@ -105,6 +111,16 @@ keeps-call (collect out) {s} {e} {n} r u = record { entry = e; held-by = by (ref
     by : (v : Verdict) → refusedBy (collect out) (lengthsOf s) (holds e) ≡ v → afterAs v (collect out) (holds e) ≡ holds e
     by (Refused x) q = refl
     by Accepted q = clash u (ap (λ (v : Verdict). not (isAccepted v)) (refused (collect out) s (holds e) n r ∙ q))
+keeps-call (channelPass c i) {s} {e} {n} r u = by (channelRule c i) refl
+  where
+    by : (v : Verdict) → channelRule c i ≡ v → Keeps e (step (channelPass c i) (course s e n))
+    by Accepted k = kept-for (made 1 c i e) r (channel-as-passes c i k r .pass-singly)
+    by (Refused x) k = record { entry = e; held-by = rw k; like = same e }
+keeps-call (channelRun c i) {s} {e} {n} r u = by (channelRule c i) refl
+  where
+    by : (v : Verdict) → channelRule c i ≡ v → Keeps e (step (channelRun c i) (course s e n))
+    by Accepted k = kept-for (made (e .width * e .height + 1) c i e) r (channel-as-passes c i k r .run-singly)
+    by (Refused x) k = record { entry = e; held-by = rw k; like = same e }
 
 keeps-play : (cs : List Call) (w : Course) (e : Entry) → Related w → Keeps e w → uncollected cs w ≡ true → Keeps e (play cs w)
 keeps-play [] w e r k u = k
@@ -178,7 +194,7 @@ module _ {s : State} {e : Entry} {n : ℕ} (r : Held s e n) where
     left = collectState (length out) s
 
     after-collect : step (collect out) (course s e n) ≡ record { state = left; history = empty; tally = 0 }
-    unfolding step stateOf after accepted tallied
+    unfolding step stateOf after barredBy accepted tallied
     after-collect = rw ok
 
     emptied : left .job ≡ emptyJob
@@ -210,7 +226,7 @@ module _ {s : State} {e : Entry} {n : ℕ} (r : Held s e n) where
 
       -- the history then holds an entry whose first image is the last one, which is stable
       begun : Keeps anew (step again between)
-      unfolding step after accepted
+      unfolding step after barredBy accepted
       begun = record { entry = anew; held-by = rw admitted; like = same anew }
 
       like-last : (d : Entry) → Same anew d → (firstOf d ≡ e .last) × Stable (d .table) (d .width) (d .height) (firstOf d)

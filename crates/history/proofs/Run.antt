@@ -4,6 +4,7 @@
 --     few-passes                        a run of at most n passes makes at most n
 --     course s e n, step-pass, step-run     a job beside an entry, and a pass and a run there
 --     Begins s e, begins                the two ways that a run begins
+--     pass-answer                       a pass answers "at rest" exactly where the mark stands afterwards
 --     run-plays                         record, areas, history and tally after a run are those after its passes
 --     run-rests                         a run of at most one pass more than there are pixels answers "at rest", and sets the mark
 --     run-answer, ran-settled, run-as-passes     so does every run; and it is its passes called singly
@@ -17,11 +18,12 @@ use lib.ListN.{length, replicate}
 use Rattle.operator.specs.Image.{differs}
 use Rattle.history.specs.declared.Job.{Job}
 use Rattle.history.specs.declared.Passed.the-variants as passing
+use Rattle.history.specs.Answered.{restIf}
 use Rattle.history.specs.Call.{pass, run, answerOf, stateOf}
 use Rattle.history.specs.Call as calls
 use Rattle.history.specs.Demand3.{RunAsPasses}
-use Rattle.history.specs.History.{Entry, holds, nextOf, joined, marked, passed, passedFor, ran, refusedBy, accepted, after}
-use Rattle.history.specs.Lists.{Course, passesOfRun, tallied, step, play}
+use Rattle.history.specs.History.{Entry, holds, nextOf, joined, marked, passed, passedFor, ran, passesOfRun, refusedBy, barredBy, accepted, after}
+use Rattle.history.specs.Lists.{Course, tallied, step, play}
 use Rattle.history.specs.Pass.{Outcome, passOf}
 use Rattle.history.specs.Run.{runFor, runOf}
 use Rattle.history.specs.State.{State, pixels}
@@ -40,12 +42,12 @@ run-stops : (m : ℕ) (s : State) → passOf s .answer ≡ passing.Stable → ru
 run-stops m s q = run-ends (suc m) s (λ e. let z : _≡_ {A = ℕ} 0 1 = cc in omega arith)
 
 -- a settled entry stays as it is
-settled-stays : (n : ℕ) (e : Entry) → e .settled ≡ true → passedFor n e ≡ e
+pub settled-stays : (n : ℕ) (e : Entry) → e .settled ≡ true → passedFor n e ≡ e
 settled-stays zero e q = refl
 settled-stays (suc n) e q = ap (passedFor n) (passed-settled e q) ∙ settled-stays n e q
 
 -- a run of at most n passes makes at most n
-few-passes : (n : ℕ) (e : Entry) → passesOfRun n e ≤ n
+pub few-passes : (n : ℕ) (e : Entry) → passesOfRun n e ≤ n
 few-passes zero e = omega arith
 few-passes (suc n) e = pick (e .settled) (differs (e .last) (nextOf e)) (few-passes n (joined e))
   where
@@ -59,13 +61,13 @@ abbrev pub course : State → Entry → ℕ → Course
 course s e n = record { state = s; history = holds e; tally = n }
 
 -- a pass called singly, and a run
-step-pass : (s : State) (e : Entry) (n : ℕ) → step pass (course s e n) ≡ course (passOf s .state) (passed e) (n + 1)
-unfolding step stateOf after refusedBy accepted tallied
+pub step-pass : (s : State) (e : Entry) (n : ℕ) → step pass (course s e n) ≡ course (passOf s .state) (passed e) (n + 1)
+unfolding step stateOf after barredBy refusedBy accepted tallied
 step-pass s e n = refl
 
 step-run : (s : State) (e : Entry) (n : ℕ)
     → step run (course s e n) ≡ course (runOf s .state) (passedFor (e .width * e .height + 1) e) (n + passesOfRun (e .width * e .height + 1) e)
-unfolding step stateOf after refusedBy accepted tallied ran
+unfolding step stateOf after barredBy refusedBy accepted tallied ran
 step-run s e n = refl
 
 -- how a run begins: its first pass is its last, or changes the image and leaves one pass less to make
@@ -85,6 +87,15 @@ begins {s} {e} r =
           ↦ stops (ap (λ (o : Outcome). o .answer) a) (ap (λ (x : Entry). x .settled) (passed-quiet e q d))
           (λ k. cond-false 1 _ q ∙ cond-false (suc (passesOfRun k (joined e))) 1 d)
     ]
+
+-- a pass sets the mark, or finds it, exactly where it answers "at rest"
+pub pass-answer : {s : State} {e : Entry} {n : ℕ} → Held s e n → passOf s .answer ≡ restIf (passed e .settled)
+unfolding joined
+pass-answer {s} {e} r = by (begins r)
+  where
+    by : Begins s e → passOf s .answer ≡ restIf (passed e .settled)
+    by (stops a q p) = rw (a, q)
+    by (goes a q p) = rw (a, q)
 
 -- record, areas, history and tally after a run of at most k + 1 passes are those after the passes that it makes
 abbrev Plays : (k : ℕ) → State → Entry → ℕ → ℕ → Type 0

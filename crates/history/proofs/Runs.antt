@@ -5,6 +5,7 @@
 --     run-refused             a run that 14 or 16 ends before it begins
 --     goes-next, goes-ready   the passes of a run but the first; each leaves the record ready
 --     ends                    how a run ends
+--     goes-few                no more passes change pixels than there are pixels
 --     ends-at                 where it ends
 -- Assumes nothing.
 use mathlib.Core.Logic.{_⊎_, inl, inr, ⊎-elim}
@@ -114,6 +115,13 @@ ends s = let x = ends-for (pixels (s .job)) s (omega arith) in record {
   last = x .last;
   ends = x .ends;
 }
+
+-- no more passes change pixels than a run finishes
+pub goes-few : (k : ℕ) (s : State) → Goes k s → k ≤ pixels (s .job)
+goes-few k s g = ⊎-elim late (λ l. omega (arith, ends s .few)) (lt-or-le (ends s .finished) k)
+  where
+    late : ends s .finished < k → k ≤ pixels (s .job)
+    late l = absurd (ends s .ends (ap (λ (o : Outcome). o .answer) (ends s .last) ∙ g (ends s .finished) l))
 
 -- a run ends at the first pass that does not answer "changed"
 pub ends-at : (k : ℕ) (s : State) → Goes k s → (passOf (afterPasses k s) .answer ≡ Changed → ⊥) → runOf s ≡ passOf (afterPasses k s)

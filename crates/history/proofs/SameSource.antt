@@ -4,7 +4,7 @@
 -- Assumes nothing.
 use mathlib.Core.Path.{_≡_, refl}
 use Rattle.history.specs.Call.{load, answerOf, stateOf}
-use Rattle.history.specs.History.{History, empty, holds, Lengths, entered, refusedBy, accepted, afterAs, after}
+use Rattle.history.specs.History.{History, empty, holds, Lengths, entered, refusedBy, barredBy, accepted, afterAs, after}
 use Rattle.history.specs.Lists.{Course, lengthsOf, tallied, tallyAs, step}
 use Rattle.history.specs.Load.{loadVerdict, loadedJob, loadAs, loadState}
 use Rattle.history.specs.Source.{Source, sourceVerdict, sourceWidth, sourceHeight, sourceParts, sourcePixels}
@@ -43,7 +43,7 @@ module _ {x y : Source} (same : SameSource x y) (t : Table) where
   same-refusal n (holds e) = refl
 
   same-history : (n : Lengths) (H : History) → after (load t x) n H ≡ after (load t y) n H
-  unfolding after accepted entered
+  unfolding after barredBy accepted entered
   same-history n H = rw (same-refusal n H) (by (refusedBy (load t y) n H))
     where
       by : (v : Verdict) → afterAs v (load t x) H ≡ afterAs v (load t y) H
@@ -51,7 +51,7 @@ module _ {x y : Source} (same : SameSource x y) (t : Table) where
       by (Refused r) = refl
 
   pub same-course : (w : Course) → step (load t x) w ≡ step (load t y) w
-  unfolding step tallied
+  unfolding step barredBy tallied
   same-course w =
       let n = lengthsOf (w .state) in
       rw (same-state (w .state), same-history n (w .history), same-refusal n (w .history), by (refusedBy (load t y) n (w .history)))

@@ -21,7 +21,8 @@ use Rattle.operator.proofs.Heijmans.{all-heijmans}
 use Rattle.operator.proofs.Locality.{locality, part-alone}
 use Rattle.operator.proofs.Order.{order-passes}
 use Rattle.operator.proofs.Rest.{all-rest}
-use Rattle.history.specs.Call.{passed, answerOf}
+use Rattle.history.specs.declared.Passed.the-variants as rest
+use Rattle.history.specs.Call.{pass, passed, answerOf}
 use Rattle.history.specs.Demand3.{Twins, Alone, Rests}
 use Rattle.history.specs.History.{Entry}
 use Rattle.history.specs.Lists.{Course, oldest, firstOf, sumSteps}
@@ -30,6 +31,7 @@ use Rattle.history.specs.View.{viewOf}
 use Rattle.history.proofs.After.{agrees}
 use Rattle.history.proofs.Related.{Held}
 use Rattle.history.proofs.Row.{row-stable}
+use Rattle.history.proofs.ChannelRuns.{pass-accepted, run-accepted}
 use Rattle.history.proofs.Run.{run-answer}
 use Rattle.history.proofs.View.{view-held, operated-held}
 use Rattle.image.specs.Parts.{above, partOf}
@@ -116,8 +118,10 @@ rests {s} {e} r q = record {
   passes = agrees r .passes ∙ ap length none;
   added = agrees r .added ∙ ap (sumSteps added (e .last)) none;
   removed = agrees r .removed ∙ ap (sumSteps removed (e .last)) none;
-  pass-answer = operated-held r .reported .1 (rw (view-held r, last-first) fixed);
+  pass-answer = quiet;
   run-answer = ap passed (run-answer r);
+  channel-pass-answer = λ c i ok. ap passed (pass-accepted c i s ok) ∙ quiet;
+  channel-run-answer = λ c i ok. ap passed (run-accepted c i s ok ∙ run-answer r);
 }
   where
     none : e .earlier ≡ []
@@ -128,3 +132,6 @@ rests {s} {e} r q = record {
 
     fixed : modified (e .table) (e .width) (e .height) (firstOf e) ≡ firstOf e
     fixed = sym (all-heijmans (e .table) (e .width) (e .height) (firstOf e) (r .accepted) (r .begun) .pass-modified) ∙ q
+
+    quiet : answerOf pass s ≡ passed rest.Stable
+    quiet = operated-held r .reported .1 (rw (view-held r, last-first) fixed)

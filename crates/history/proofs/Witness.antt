@@ -7,9 +7,9 @@ use Prim.Native.Nat.{ℕ}
 use borrow.Author.Tests.{not-true}
 use lib.Dec.{ltb, eqb}
 use lib.ListN.{length}
-use Rattle.history.specs.Call.{Call, load, pass, run, view, figures, collect, isLoad, isCollect, answerOf, refusalOf}
+use Rattle.history.specs.Call.{Call, load, pass, run, view, figures, collect, channelPass, channelRun, isLoad, isCollect, answerOf, refusalOf}
 use Rattle.history.specs.Collect.{collected, collectVerdict, collectWritten}
-use Rattle.history.specs.Demand1.{stateNumbers}
+use Rattle.history.specs.Demand1.{stateNumbers, placed}
 use Rattle.history.specs.Source.{Source, fromFile, fromThree, fromStrip, sourceVerdict}
 use Rattle.history.specs.State.{State, unsound}
 use Rattle.history.specs.Witness.{PassedOn}
@@ -38,11 +38,11 @@ unfolding answerOf
 load-witness t x s =
     load-says t x s (neither (zeros refl)) (neither (zeros refl)) (witnesses .of-record t) (says-more (λ r. neither) (source-says x)) (neither (zeros refl))
 
--- a refusal because of the state is its number, at place 0
+-- a refusal because of the state or of the quota is its number and its place
 state-says : (c : Call) (s : State) (r : Refusal) → refusalOf (answerOf c s) ≡ Refused r → among stateNumbers (r .number) ≡ true → Neither r
 state-says c s r q m =
     let again = given c s (r .number) (only c s r q m .0) in
-    let same : refusal (r .number) 0 ≡ r = cc in
+    let same : refusal (r .number) (placed c (r .number)) ≡ r = cc in
     subst Neither same (zeros (not-true _ (one-of-passes {ns = stateNumbers} (λ n. not (among (5 ∷ 7 ∷ []) n)) (refuses {r = r} (by m)) refl refl)))
 
 other-says : (c : Call) (s : State) → isLoad c ≡ false → isCollect c ≡ false → Says Neither (refusalOf (answerOf c s))
@@ -67,3 +67,5 @@ passed-on run s = other-says run s refl refl
 passed-on view s = other-says view s refl refl
 passed-on figures s = other-says figures s refl refl
 passed-on (collect out) s = collect-says out s
+passed-on (channelPass q i) s = other-says (channelPass q i) s refl refl
+passed-on (channelRun q i) s = other-says (channelRun q i) s refl refl

@@ -40,7 +40,11 @@ unfolding Rattle.seq.specs.Bits.bit Rattle.seq.specs.Bits.bitsOf Rattle.seq.s
     Rattle.history.specs.Pass.exceeds Rattle.history.specs.Pass.withNext Rattle.history.specs.Pass.changedJob
     Rattle.history.specs.Pass.stableJob Rattle.history.specs.Pass.changing Rattle.history.specs.Pass.passLoaded
     Rattle.history.specs.Pass.passReady Rattle.history.specs.Pass.passOf Rattle.history.specs.Run.runFor
-    Rattle.history.specs.Run.runOf Rattle.history.specs.State.emptyJob Rattle.history.specs.State.present
+    Rattle.history.specs.Run.runOf Rattle.history.specs.Quota.kept Rattle.history.specs.Quota.openVerdict
+    Rattle.history.specs.Quota.openQuota Rattle.history.specs.Quota.lacks Rattle.history.specs.Quota.channelRule Rattle.history.specs.Quota.available
+    Rattle.history.specs.Quota.charged Rattle.history.specs.Channel.channelVerdict
+    Rattle.history.specs.Channel.channelPassOf Rattle.history.specs.Channel.channelRunFor
+    Rattle.history.specs.Channel.channelRunOf Rattle.history.specs.History.barredBy Rattle.history.specs.State.emptyJob Rattle.history.specs.State.present
     Rattle.history.specs.State.image Rattle.history.specs.State.nonzero Rattle.history.specs.State.inconsistent
     Rattle.history.specs.State.unsound Rattle.history.specs.State.readyVerdict Rattle.history.specs.Rounding.nearest
     Rattle.history.specs.View.viewOf Rattle.history.specs.View.cover Rattle.history.specs.View.figuresOf

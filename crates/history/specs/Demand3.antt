@@ -2,6 +2,8 @@
 --     Agrees s e          record, areas and entry agree
 --     Operated t w h s    a pass gives the operator's image, and answers "at rest" exactly when the operator changes nothing
 --     RunAsPasses w e     a run is its passes called singly
+--     ChannelAsPasses w e q i     so are a channel's pass and run, all that they need or those that are left, and the quota pays for each at stage 1
+--     QuotaBack q i s     a channel's pass and run hand the quota back as it was
 --     AfterList n w       what holds after any list, on areas of the lengths n
 --     Twins w w' e e'     two jobs with one table, one size and equally many accepted passes, or both settled
 --     Rests img s         a stable image that was loaded stays
@@ -23,10 +25,13 @@ use Rattle.operator.specs.Locality.{reach, Alike, Inner}
 use Rattle.operator.specs.Parts.{addedIn, removedIn}
 use Rattle.operator.specs.Pass as operator
 use Rattle.history.specs.declared.Passed.the-variants.{Changed, Stable}
+use Rattle.history.specs.declared.Quota.{Quota}
 use Rattle.history.specs.Answered.{answeredBy}
-use Rattle.history.specs.Call.{Call, load, pass, run, collect, passed, collected, answerOf, stateOf, refusalOf}
-use Rattle.history.specs.History.{Entry, empty, holds, Lengths, refusedBy}
+use Rattle.history.specs.Call.{Call, load, pass, run, collect, channelPass, channelRun, passed, collected, answerOf, stateOf, refusalOf}
+use Rattle.history.specs.Channel.{channelPassOf, channelRunOf}
+use Rattle.history.specs.History.{Entry, empty, holds, Lengths, spends, made, refusedBy, barredBy}
 use Rattle.history.specs.Lists.{Course, start, lengthsOf, step, play, uncollected, firstOf, overSteps}
+use Rattle.history.specs.Quota.{channelRule, chargedFor}
 use Rattle.history.specs.Source.{Source, fromFile, fromStrip}
 use Rattle.history.specs.State.{State}
 use Rattle.history.specs.View.{viewOf}
@@ -85,6 +90,16 @@ pub record RunAsPasses (w : Course) (e : Entry) : Type 0 where
   -- and the run answers "at rest"
   pub answer : answerOf run (w .state) ≡ passed Stable
 
+-- 02, T-10: record, areas, history and tally end as after these passes called singly, and the quota with so many passes less
+pub record ChannelAsPasses (w : Course) (e : Entry) (q : Quota) (i : ℕ) : Type 0 where
+  pub pass-singly : step (channelPass q i) w ≡ play (replicate (made 1 q i e) pass) w
+  pub pass-quota : channelPassOf q i (w .state) .quota ≡ chargedFor (spends 1 q i e) q i
+  pub run-singly : step (channelRun q i) w ≡ play (replicate (made (e .width * e .height + 1) q i e) pass) w
+  pub run-quota : channelRunOf q i (w .state) .quota ≡ chargedFor (spends (e .width * e .height + 1) q i e) q i
+
+abbrev pub QuotaBack : Quota → ℕ → State → Type 0
+QuotaBack q i s = (channelPassOf q i s .quota ≡ q) × (channelRunOf q i s .quota ≡ q)
+
 pub record AfterList (n : Lengths) (w : Course) : Type 0 where
   pub lengths : lengthsOf (w .state) ≡ n
   pub stage-empty : (w .state .job .stage ≡ 0) ↔ (w .history ≡ empty)
@@ -100,8 +115,11 @@ pub record AfterList (n : Lengths) (w : Course) : Type 0 where
   -- so it is refused exactly as the history says, and never by 14
   pub refused : (c : Call) → refusalOf (answerOf c (w .state)) ≡ refusedBy c n (w .history)
   pub never-14 : (c : Call) (r : Refusal) → refusalOf (answerOf c (w .state)) ≡ Refused r → r .number ≢ 14
-  -- and a refused call alters neither record nor areas
-  pub unaltered : (c : Call) (r : Refusal) → refusalOf (answerOf c (w .state)) ≡ Refused r → stateOf c (w .state) ≡ w .state
+  -- and a refused call alters neither record nor areas, but for a channel's run that 24 stops on its way
+  pub unaltered : (c : Call) (r : Refusal) → barredBy c n (w .history) ≡ Refused r → stateOf c (w .state) ≡ w .state
+  -- a channel's calls, with any quota: its passes called singly; on an empty job, and by 25, the quota is handed back as it was
+  pub channel-as-passes : (e : Entry) → w .history ≡ holds e → (q : Quota) (i : ℕ) → channelRule q i ≡ Accepted → ChannelAsPasses w e q i
+  pub quota-back : (q : Quota) (i : ℕ) → (w .history ≡ empty) ⊎ (channelRule q i ≢ Accepted) → QuotaBack q i (w .state)
 
 pub record Twins (w w' : Course) (e e' : Entry) : Type 0 where
   pub here : w .history ≡ holds e
@@ -119,6 +137,9 @@ pub record Rests (img : List ℕ) (s : State) : Type 0 where
   pub removed : s .job .removed ≡ 0
   pub pass-answer : answerOf pass s ≡ passed Stable
   pub run-answer : answerOf run s ≡ passed Stable
+  -- and every channel's pass and run that its quota lets through
+  pub channel-pass-answer : (q : Quota) (i : ℕ) → refusalOf (answerOf (channelPass q i) s) ≡ Accepted → answerOf (channelPass q i) s ≡ passed Stable
+  pub channel-run-answer : (q : Quota) (i : ℕ) → refusalOf (answerOf (channelRun q i) s) ≡ Accepted → answerOf (channelRun q i) s ≡ passed Stable
 
 -- a source loaded with the entry's table: accepted, and what it loads is the entry's last image, which stays until a collect is accepted
 pub record Reloads (w : Course) (e : Entry) (x : Source) : Type 0 where

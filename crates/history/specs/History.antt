@@ -7,20 +7,28 @@
 --     nextOf e         the last image through one pass; joined e: it joins the row; marked e: the mark is set
 --     passed e         pass: with the mark, nothing; else a result that differs joins the row, one that does not sets the mark
 --     ran e            run: passes until the mark stands; passedFor n e: at most n
+--     passesOfRun n e  the passes that a run of at most n makes: one answers "at rest", and those before it change the image
+--     needed n e       those that a channel's call of at most n passes needs from its quota: none at rest
+--     spends n q i e   those that it spends: what it needs, or what it has
+--     made n q i e     those that it makes: the one at rest costs nothing
 --     filesOf e        the files of the last image's parts, one after another
 --     refusedBy c n H      what is refused follows from 01's lists, the history standing for the record, without 14
---     after c n H          the history after a call: a refused one leaves it alone; afterAs v c H: by the verdict
+--     barredBy c n H       what is refused with nothing done: all but 24 on the way of a channel's run
+--     after c n H          the history after a call: a refused one leaves it alone, but for such a run; afterAs v c H: by the verdict
 --     accepted c H         the history after an accepted call
 -- Assumes nothing.
 use mathlib.Core.Bool.{Bool, true, false, cond, not}
 use mathlib.Core.List.{List, [], _∷_}
-use Prim.Native.Nat.{ℕ, zero, suc, _+_, _*_}
+use Prim.Native.Nat.{ℕ, zero, suc, _+_, _*_, min}
 use lib.Dec.{ltb}
 use lib.ListN.{length}
 use Rattle.operator.specs.Image.{differs}
 use Rattle.operator.specs.Pass as operator
-use Rattle.history.specs.Call.{Call, load, pass, run, view, figures, collect}
+use Rattle.history.specs.declared.Quota.{Quota}
+use Rattle.history.specs.Call.{Call, load, pass, run, view, figures, collect, channelPass, channelRun}
+use Rattle.history.specs.Channel.{spentRule}
 use Rattle.history.specs.Load.{areasRule}
+use Rattle.history.specs.Quota.{channelRule, available}
 use Rattle.history.specs.Source.{Source, sourceVerdict, sourceWidth, sourceHeight, sourceParts, sourcePixels}
 use Rattle.image.specs.Strip.{stripBytes}
 use Rattle.table.specs.declared.Table.{Table}
@@ -98,6 +106,20 @@ passedFor (suc n) e = passedFor n (passed e)
 unfoldable pub ran : Entry → Entry
 ran e = passedFor (e .width * e .height + 1) e
 
+abbrev pub passesOfRun : ℕ → Entry → ℕ
+passesOfRun zero e = 0
+passesOfRun (suc n) e = cond (e .settled) 1 (cond (differs (e .last) (nextOf e)) (suc (passesOfRun n (joined e))) 1)
+
+-- what a quota has to pay for
+abbrev pub needed : ℕ → Entry → ℕ
+needed n e = cond (e .settled) 0 (passesOfRun n e)
+
+abbrev pub spends : ℕ → Quota → ℕ → Entry → ℕ
+spends n q i e = min (available q i) (needed n e)
+
+abbrev pub made : ℕ → Quota → ℕ → Entry → ℕ
+made n q i e = cond (e .settled) 1 (spends n q i e)
+
 unfoldable pub filesOf : Entry → List ℕ
 filesOf e = stripBytes (e .width) (e .parts) (e .last)
 
@@ -115,6 +137,22 @@ refusedBy figures n (holds e) = Accepted
 refusedBy (collect out) n empty = Refused (refusal 16 0)
 refusedBy (collect out) n (holds e) =
     judge (refuseIf (not (e .settled)) 17 0 ∷ refuseIf (ltb (length out) (length (filesOf e))) 13 0 ∷ [])
+refusedBy (channelPass q i) n empty = judge (channelRule q i ∷ Refused (refusal 16 0) ∷ [])
+refusedBy (channelPass q i) n (holds e) = judge (channelRule q i ∷ spentRule q i (needed 1 e) ∷ [])
+refusedBy (channelRun q i) n empty = judge (channelRule q i ∷ Refused (refusal 16 0) ∷ [])
+refusedBy (channelRun q i) n (holds e) = judge (channelRule q i ∷ spentRule q i (needed (e .width * e .height + 1) e) ∷ [])
+
+-- a channel's run that 24 stops on its way has made passes
+unfoldable pub barredBy : Call → Lengths → History → Verdict
+barredBy (load t x) n H = refusedBy (load t x) n H
+barredBy pass n H = refusedBy pass n H
+barredBy run n H = refusedBy run n H
+barredBy view n H = refusedBy view n H
+barredBy figures n H = refusedBy figures n H
+barredBy (collect out) n H = refusedBy (collect out) n H
+barredBy (channelPass q i) n H = refusedBy (channelPass q i) n H
+barredBy (channelRun q i) n empty = refusedBy (channelRun q i) n empty
+barredBy (channelRun q i) n (holds e) = channelRule q i
 
 unfoldable pub accepted : Call → History → History
 accepted (load t x) H = holds (entered t x)
@@ -125,10 +163,14 @@ accepted run (holds e) = holds (ran e)
 accepted view H = H
 accepted figures H = H
 accepted (collect out) H = empty
+accepted (channelPass q i) empty = empty
+accepted (channelPass q i) (holds e) = holds (passed e)
+accepted (channelRun q i) empty = empty
+accepted (channelRun q i) (holds e) = holds (passedFor (made (e .width * e .height + 1) q i e) e)
 
 abbrev pub afterAs : Verdict → Call → History → History
 afterAs Accepted c H = accepted c H
 afterAs (Refused r) c H = H
 
 unfoldable pub after : Call → Lengths → History → History
-after c n H = afterAs (refusedBy c n H) c H
+after c n H = afterAs (barredBy c n H) c H

@@ -4,6 +4,8 @@ pub mod Load
 pub mod Pass
 pub mod Sound
 pub mod Run
+pub mod Quota
+pub mod Channel
 pub mod Rounding
 pub mod View
 pub mod Collect
@@ -18,5 +20,7 @@ pub mod Demand3
 pub mod Padding
 pub mod Majority
 pub mod Witness
+pub mod Fleet
 pub mod Computing
 pub mod Cases
+pub mod ChannelCases

@@ -2,7 +2,6 @@
 --     Course            record and areas, the history, and how many passes were accepted since the load, those inside runs counted
 --     start a b         an empty record and two areas of any length and bytes
 --     lengthsOf s       the lengths of the areas
---     passesOfRun n e   the passes that a run of at most n makes: one answers "at rest", and those before it change the image
 --     tallied c H n     the tally after an accepted call; tallyAs v c H n: after a call with this verdict
 --     step c w          one call
 --     play cs w         the calls of a list, one after the other
@@ -10,13 +9,12 @@
 --     firstOf e         the first image of an entry; oldest img earlier: the oldest of a row, from the last image back
 --     overSteps f e     f from image to next image, summed over the steps of an entry; sumSteps f img earlier: over those of a row
 -- Assumes nothing.
-use mathlib.Core.Bool.{Bool, true, cond, not, _&&_}
+use mathlib.Core.Bool.{Bool, true, not, _&&_}
 use mathlib.Core.List.{List, [], _∷_}
-use Prim.Native.Nat.{ℕ, zero, suc, _+_, _*_}
+use Prim.Native.Nat.{ℕ, _+_, _*_}
 use lib.ListN.{length}
-use Rattle.operator.specs.Image.{differs}
-use Rattle.history.specs.Call.{Call, load, pass, run, view, figures, collect, isCollect, answerOf, stateOf, refusalOf}
-use Rattle.history.specs.History.{Entry, History, empty, holds, Lengths, nextOf, joined, refusedBy, after}
+use Rattle.history.specs.Call.{Call, load, pass, run, view, figures, collect, channelPass, channelRun, isCollect, answerOf, stateOf, refusalOf}
+use Rattle.history.specs.History.{Entry, History, empty, holds, Lengths, passesOfRun, made, barredBy, after}
 use Rattle.history.specs.State.{State, emptyJob}
 use Rattle.verdict.specs.declared.Verdict.{Verdict}
 use Rattle.verdict.specs.declared.Verdict.the-variants.{Accepted, Refused}
@@ -33,10 +31,6 @@ start a b = record { state = record { job = emptyJob; first = a; second = b }; h
 unfoldable pub lengthsOf : State → Lengths
 lengthsOf s = record { first = length (s .first); second = length (s .second) }
 
-abbrev pub passesOfRun : ℕ → Entry → ℕ
-passesOfRun zero e = 0
-passesOfRun (suc n) e = cond (e .settled) 1 (cond (differs (e .last) (nextOf e)) (suc (passesOfRun n (joined e))) 1)
-
 unfoldable pub tallied : Call → History → ℕ → ℕ
 tallied (load t x) H n = 0
 tallied pass H n = n + 1
@@ -45,6 +39,9 @@ tallied run (holds e) n = n + passesOfRun (e .width * e .height + 1) e
 tallied view H n = n
 tallied figures H n = n
 tallied (collect out) H n = 0
+tallied (channelPass q i) H n = n + 1
+tallied (channelRun q i) empty n = n
+tallied (channelRun q i) (holds e) n = n + made (e .width * e .height + 1) q i e
 
 abbrev pub tallyAs : Verdict → Call → History → ℕ → ℕ
 tallyAs Accepted c H n = tallied c H n
@@ -55,7 +52,7 @@ step c w =
     record {
       state = stateOf c (w .state);
       history = after c (lengthsOf (w .state)) (w .history);
-      tally = tallyAs (refusedBy c (lengthsOf (w .state)) (w .history)) c (w .history) (w .tally);
+      tally = tallyAs (barredBy c (lengthsOf (w .state)) (w .history)) c (w .history) (w .tally);
     }
 
 abbrev pub play : List Call → Course → Course

@@ -1,4 +1,4 @@
-// The job record and what the calls on a job answer. No code: the definitions of the calls and demand 3.
+// The job record, the quota and what the calls on a job answer. No code: the definitions of the calls and demand 3.
 use image::strip::PartCounts;
 use image::strip::Strip;
 use table::Table;
@@ -28,4 +28,17 @@ pub enum Passed {
 pub enum Figured {
     Figures { balance: i64, cover: usize },
     Refused(Refusal),
+}
+
+pub const MAX_CHANNELS: usize = 4;
+
+// An allowance of passes that up to four channels share (02, T-10: a round, its lanes). Each channel, counted from 1, has a reserve (02: its floor),
+// of which `left` is left; what the reserves leave of the allowance is the pool.
+#[repr(C)]
+pub struct Quota {
+    pub channels: usize,
+    pub allowance: usize,
+    pub reserves: [usize; MAX_CHANNELS],
+    pub left: [usize; MAX_CHANNELS],
+    pub pool: usize,
 }

@@ -14,3 +14,5 @@ pub mod Black
 pub mod Views
 pub mod Collects
 pub mod Loads
+pub mod Charges
+pub mod ChannelRuns

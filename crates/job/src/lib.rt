@@ -25,9 +25,11 @@ ghost use Rattle.job.specs.Core.{at, loaded, entering, stepped, emptied}
 ghost use Rattle.verdict.specs.Rules.{judge};
 
 mod area;
+pub mod channel;
 mod cross;
 mod figure;
 mod parts;
+pub mod quota;
 mod sound;
 mod step;
 

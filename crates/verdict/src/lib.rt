@@ -89,4 +89,8 @@ pub const RANK_COUNT: u32 = 18;
 
 pub const PARTS: u32 = 23;
 
+pub const ALLOWANCE_SPENT: u32 = 24;
+
+pub const QUOTA_RANGE: u32 = 25;
+
 pub const SIZES_DIFFER: u32 = 26;

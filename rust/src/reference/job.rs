@@ -1,11 +1,11 @@
-//! 01, "The job": load, load of three files and of a strip, pass, run, view, figures, collect on a record and two areas.
+//! 01, "The job": load, load of three files and of a strip, pass, run, a channel's pass and run, view, figures, collect on a record and two areas.
 
 use super::image::{self, Image};
 use super::strip::{self, Strip};
-use super::{pass as rule, table};
+use super::{pass as rule, quota as round, table};
 use crate::record::{
-    Figures, JobRecord, Progress, Reason, Refusal, StripRecord, TableRecord, MAX_PARTS,
-    STAGE_EMPTY, STAGE_LOADED, STAGE_STABLE,
+    Figures, JobRecord, Progress, QuotaRecord, Reason, Refusal, StripRecord, TableRecord,
+    MAX_PARTS, STAGE_EMPTY, STAGE_LOADED, STAGE_STABLE,
 };
 
 /// The area that holds the present image: the first when passes is even.
@@ -205,6 +205,37 @@ pub fn run(
     second: &mut [u8],
 ) -> Result<Progress, Refusal> {
     while pass(record, first, second)? == Progress::Changed {}
+    Ok(Progress::Stable)
+}
+
+/// A pass of a lane (T-10): 25, 14, 16, 24, and then a pass as it is. An accepted one at stage 1 spends a pass of the round.
+pub fn channel_pass(
+    record: &mut JobRecord,
+    quota: &mut QuotaRecord,
+    channel: usize,
+    first: &mut [u8],
+    second: &mut [u8],
+) -> Result<Progress, Refusal> {
+    round::check_channel(quota, channel)?;
+    check_loaded(record, first, second)?;
+    if record.stage == STAGE_STABLE {
+        return Ok(Progress::Stable);
+    }
+    round::check_left(quota, channel)?;
+    let progress = pass(record, first, second)?;
+    round::spend(quota, channel);
+    Ok(progress)
+}
+
+/// A lane's run: its passes, until one answers "at rest" or is refused. Those before stay, and are spent.
+pub fn channel_run(
+    record: &mut JobRecord,
+    quota: &mut QuotaRecord,
+    channel: usize,
+    first: &mut [u8],
+    second: &mut [u8],
+) -> Result<Progress, Refusal> {
+    while channel_pass(record, quota, channel, first, second)? == Progress::Changed {}
     Ok(Progress::Stable)
 }
 

@@ -15,7 +15,10 @@ use std::io::Write;
 use std::ops::RangeInclusive;
 use std::slice::ChunksExactMut;
 
+pub mod book;
+pub mod channels;
 pub mod compare;
+pub mod fleet;
 pub mod strips;
 pub mod tables;
 
