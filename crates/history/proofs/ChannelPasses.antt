@@ -23,7 +23,7 @@ use Rattle.history.specs.declared.Passed.the-variants as passed
 use Rattle.history.specs.declared.Quota.{Quota}
 use Rattle.history.specs.Channel.{ChannelOutcome, spentRule, demand, channelVerdict, paid, channelAs, channelPassOf}
 use Rattle.history.specs.Pass.{Outcome, passOf}
-use Rattle.history.specs.Quota.{lacks, channelRule, available, charged, chargedFor}
+use Rattle.history.specs.Quota.{lacks, channelRule, available, charged}
 use Rattle.history.specs.Sound.{Ready}
 use Rattle.history.specs.State.{State, soundRule, loadedRule, readyVerdict}
 use Rattle.history.proofs.Passes.{pass-stable, Changes, changed}
@@ -84,7 +84,7 @@ module _ (q : Quota) (i : ℕ) (s : State) where
     at-rest z =
         by-verdict Accepted (rest-verdict z)
         ∙ ap (λ (o : Outcome). record { answer = o .answer; state = o .state; quota = paid (o .answer) (demand (s .job)) q i }) (pass-stable s ready z)
-        ∙ ap (λ (n : ℕ). record { answer = passed.Stable; state = s; quota = chargedFor n q i }) (needs-none (s .job) z)
+        ∙ ap (λ (n : ℕ). record { answer = passed.Stable; state = s; quota = paid passed.Stable n q i }) (needs-none (s .job) z)
 
   pub channel-refused : {r : Refusal} → orElse (channelRule q i) (readyVerdict s) ≡ Refused r → channelPassOf q i s ≡ unmade r s q
   channel-refused {r} e =
