@@ -4,7 +4,7 @@ mod common;
 
 use common::channels::{any_quota, available, opened, spent, CALLS, RANGE};
 use common::compare::{some_table, CHANGED, STABLE};
-use common::fleet::{Fleet, Lane};
+use common::fleet::{Fleet, Member};
 use common::{reasons, report, Side, State, Tally};
 use mask_cleaner::cases::{
     lasting_tables, median, random_cut, random_figure, random_image, ring, Kind, Random,
@@ -24,7 +24,7 @@ fn dash() -> Image {
 
 /// Passes, removed and stage of a channel, then what is left of the reserves of two channels, and the pool.
 fn numbers(fleet: &Fleet, channel: usize) -> [usize; 6] {
-    let record = &fleet.lanes[channel - 1].state.record;
+    let record = &fleet.members[channel - 1].state.record;
     let [one, two, ..] = fleet.quota.left;
     let stage = usize::from(record.stage);
     [
@@ -41,9 +41,13 @@ fn numbers(fleet: &Fleet, channel: usize) -> [usize; 6] {
 #[test]
 fn two_lanes_of_the_request() {
     let mut random = Random::new(200);
-    let lanes = (0..2).map(|_| Lane::new([576, 576], &mut random));
-    let mut fleet = Fleet::new(5, [2, 1, 9, 9], lanes.collect());
-    assert_eq!(fleet.quota.reserves, [2, 1, 0, 0], "floors past the lanes");
+    let members = (0..2).map(|_| Member::new([576, 576], &mut random));
+    let mut fleet = Fleet::new(5, [2, 1, 9, 9], members.collect());
+    assert_eq!(
+        fleet.quota.reserves,
+        [2, 1, 0, 0],
+        "reserves past the channels"
+    );
     let load = Call::Load {
         table: median(),
         file: file_of(&dash()),

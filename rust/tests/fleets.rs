@@ -5,7 +5,7 @@ mod common;
 
 use common::channels::{spent, CALLS};
 use common::compare::{CHANGED, STABLE};
-use common::fleet::{Fleet, Given, Lane};
+use common::fleet::{Fleet, Given, Member};
 use common::strips::{assert_counts, assert_files, cut, load_of, loaded, random_strip};
 use common::{report, Side, State, Stock};
 use mask_cleaner::cases::{lasting_tables, random_cut, random_figure, Random};
@@ -120,12 +120,12 @@ fn random_fleet(pixels: usize, random: &mut Random) -> Fleet {
     let mut reserves = [(); MAX_CHANNELS].map(|()| *random.choose(&[0, 0, 1, 2, 3, 5]));
     let allowance = reserves[..channels].iter().sum::<usize>() + *random.choose(&[0, 0, 1, 2, 4]);
     reserves[channels..].fill(*random.choose(&[0, 1, usize::MAX]));
-    let lanes = (0..channels).map(|_| {
+    let members = (0..channels).map(|_| {
         let least = if random.percent(10) { 0 } else { pixels };
         let lengths = [(); 2].map(|()| least + random.below(pixels));
-        Lane::new(lengths, random)
+        Member::new(lengths, random)
     });
-    Fleet::new(allowance, reserves, lanes.collect())
+    Fleet::new(allowance, reserves, members.collect())
 }
 
 /// What a job needs to go on: a load of an image or strip that takes some passes, or a collect.
@@ -152,7 +152,7 @@ fn random_move(
     random: &mut Random,
     given: &mut Given,
 ) {
-    let channels = fleet.lanes.len();
+    let channels = fleet.members.len();
     match random.below(100) {
         0..=49 => {
             let call = *random.choose(&CALLS);
@@ -170,7 +170,7 @@ fn random_move(
         _ => {
             let job = random.below(channels);
             let call = if random.percent(50) {
-                next_call(&fleet.lanes[job].state, longest, random)
+                next_call(&fleet.members[job].state, longest, random)
             } else {
                 stock.call(random)
             };

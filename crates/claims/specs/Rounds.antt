@@ -225,8 +225,8 @@ module _ (q : Quota) (ok : openVerdict q ≡ Accepted) (a b : ℕ → List ℕ) 
   abbrev F : Fleet
   F = moved ms (begun q a b)
 
-  abbrev floor : ℕ
-  floor = getD (openQuota q .reserves) (i - 1) 0
+  abbrev own-reserve : ℕ
+  own-reserve = getD (openQuota q .reserves) (i - 1) 0
 
   -- its course is that of a list of calls on its own job, so demand 3 holds for it
   pub alone : (cs : List Call) × (F .courses i ≡ course cs (a i) (b i))
@@ -241,14 +241,14 @@ module _ (q : Quota) (ok : openVerdict q ≡ Accepted) (a b : ℕ → List ℕ) 
 
   -- a channel that the quota has
   module _ (rule : channelRule (F .quota) i ≡ Accepted) where
-    pub reserve : getD (F .quota .left) (i - 1) 0 ≡ floor - F .spent i
+    pub reserve : getD (F .quota .left) (i - 1) 0 ≡ own-reserve - F .spent i
     reserve = together.rounds .after-round q ok a b ms .reserve i rule
 
-    pub usable-pass : (e : Entry) → F .courses i .history ≡ holds e → F .spent i < floor
+    pub usable-pass : (e : Entry) → F .courses i .history ≡ holds e → F .spent i < own-reserve
         → refusalOf (answerOf (channelPass (F .quota) i) (F .courses i .state)) ≡ Accepted
     usable-pass e = together.rounds .after-round q ok a b ms .usable-pass i e rule
 
-    pub usable-run : (e : Entry) → F .courses i .history ≡ holds e → F .spent i + needed (e .width * e .height + 1) e ≤ floor
+    pub usable-run : (e : Entry) → F .courses i .history ≡ holds e → F .spent i + needed (e .width * e .height + 1) e ≤ own-reserve
         → refusalOf (answerOf (channelRun (F .quota) i) (F .courses i .state)) ≡ Accepted
     usable-run e = together.rounds .after-round q ok a b ms .usable-run i e rule
 

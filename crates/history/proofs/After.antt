@@ -21,7 +21,7 @@ use Rattle.history.proofs.Channel.{channel-as-passes}
 use Rattle.history.proofs.Never14.{never-14}
 use Rattle.history.proofs.Pass.{last-image}
 use Rattle.history.proofs.Refused.{answered, refused, unaltered, quota-back}
-use Rattle.history.proofs.Related.{stageOf, stepCounts, Held, RelatedTo, Related}
+use Rattle.history.proofs.Related.{stageOf, stepCounts, Held, RelatedTo, Related, stage-of, stage-two}
 use Rattle.history.proofs.Row.{row-bound, row-single, row-balance}
 use Rattle.history.proofs.Run.{run-as-passes}
 use Rattle.history.proofs.View.{view-held, operated-held}
@@ -69,17 +69,9 @@ agrees {s} {e} r = record {
   bound = row-bound (r .accepted) (r .row) (r .begun);
 }
 
--- the stage of a record that holds an entry
-stage-of : {s : State} {e : Entry} {n : ℕ} → Held s e n → s .job .stage ≡ stageOf (e .settled)
-stage-of r = ap (λ (j : Job). j .stage) (r .job)
-
 stage-nonzero : (b : Bool) → stageOf b ≡ 0 → ⊥
 stage-nonzero true q = omega arith
 stage-nonzero false q = omega arith
-
-stage-two : (b : Bool) → stageOf b ≡ 2 → b ≡ true
-stage-two true q = refl
-stage-two false q = absurd (omega arith)
 
 -- an entry is not the empty history
 holds-empty {ℓ} : {P : Type ℓ} (e : Entry) → holds e ≡ empty → P

@@ -39,7 +39,7 @@ use Rattle.history.proofs.ChannelRuns.{run-once, run-next, run-ended}
 use Rattle.history.proofs.Entries.{cond-true, cond-false}
 use Rattle.history.proofs.Pass.{resting, changes, quiet, turn, pass-held}
 use Rattle.history.proofs.Quotas.{rule-charged, available-charged}
-use Rattle.history.proofs.Related.{stageOf, Held}
+use Rattle.history.proofs.Related.{Held, stage-of, stage-one, stage-two}
 use Rattle.history.proofs.Run.{course, settled-stays, Begins, stops, goes, begins, pass-answer, step-pass}
 use Rattle.history.proofs.Sound.{ready-held, ready-empty}
 use Rattle.seq.proofs.Lists.{clash, either}
@@ -56,28 +56,16 @@ pub data Metering (q : Quota) (i : ℕ) (s : State) (e : Entry) : Type 0 where
   pays : e .settled ≡ false → 0 < available q i
       → channelPassOf q i s ≡ record { answer = passOf s .answer; state = passOf s .state; quota = charged q i } → Metering q i s e
 
--- the stage tells the mark
-stage-unsettled : (b : Bool) → stageOf b ≡ 1 → b ≡ false
-stage-unsettled true z = absurd (omega arith)
-stage-unsettled false z = refl
-
-stage-settled : (b : Bool) → stageOf b ≡ 2 → b ≡ true
-stage-settled true z = refl
-stage-settled false z = absurd (omega arith)
-
 module _ (q : Quota) (i : ℕ) (rule : channelRule q i ≡ verdict.Accepted) {s : State} {e : Entry} {n : ℕ} (r : Held s e n) where
-  marked-by : {k : ℕ} → s .job .stage ≡ k → stageOf (e .settled) ≡ k
-  marked-by z = sym (ap (λ (j : Job). j .stage) (r .job)) ∙ z
-
   pub metering : Metering q i s e
   metering = by (channel-way q i s)
     where
       by : ChannelWay q i s → Metering q i s e
       by (way.barred x bad p) = refused-accepted bad rule
       by (way.unready ok x y p) = refused-accepted y (ready-held r)
-      by (way.spent-out ok x z l p) = spent-out (stage-unsettled (e .settled) (marked-by z)) l p
-      by (way.resting ok x z p) = rests (stage-settled (e .settled) (marked-by z)) p
-      by (way.paying ok x z l p) = pays (stage-unsettled (e .settled) (marked-by z)) l (p ∙ paid-here (begins r))
+      by (way.spent-out ok x z l p) = spent-out (stage-one (e .settled) (sym (stage-of r) ∙ z)) l p
+      by (way.resting ok x z p) = rests (stage-two (e .settled) (sym (stage-of r) ∙ z)) p
+      by (way.paying ok x z l p) = pays (stage-one (e .settled) (sym (stage-of r) ∙ z)) l (p ∙ paid-here (begins r))
         where
           paid-here : Begins s e
               → _≡_ {A = ChannelOutcome} (record { answer = passOf s .answer; state = passOf s .state; quota = paid (passOf s .answer) 1 q i }) (record { answer = passOf s .answer; state = passOf s .state; quota = charged q i })

@@ -12,8 +12,7 @@ use mathlib.Core.Logic.{_⊎_, inl, inr, ⊎-elim}
 use mathlib.Core.Path.{_≡_, refl, sym, ap, _∙_}
 use Prim.Native.Nat.{ℕ, zero, suc, _+_, _-_, _≤_, _<_}
 use native.Mathlib.Omega.{arith}
-use Rattle.history.specs.declared.Passed.{Passed}
-use Rattle.history.specs.declared.Passed.the-variants.{Changed, Stable, Refused}
+use Rattle.history.specs.declared.Passed.the-variants.{Changed, Refused}
 use Rattle.history.specs.declared.Quota.{Quota}
 use Rattle.history.specs.Answers.{passedVerdict}
 use Rattle.history.specs.Channel.{ChannelOutcome, channelPassOf, channelRunFor, channelRunOf}
@@ -28,22 +27,13 @@ use Rattle.history.proofs.ChannelPasses.{unmade, channel-barred, Channe
 use Rattle.history.proofs.Passes.{pass-refused, pass-stable}
 use Rattle.history.proofs.Ready.{ready-accepted}
 use Rattle.history.proofs.Quotas.{rule-charged, rule-charged-for, available-charged, available-charged-for}
-use Rattle.history.proofs.Runs.{goes-next, goes-few, ends}
+use Rattle.history.proofs.Runs.{after, after-ends, goes-next, goes-few, ends}
 use Rattle.seq.proofs.Tests.{lt-or-le}
 use Rattle.verdict.specs.declared.Refusal.{Refusal}
 use Rattle.verdict.specs.declared.Verdict.{Verdict}
 use Rattle.verdict.specs.declared.Verdict.the-variants as verdict
 use Rattle.verdict.specs.Rules.{refusal}
 use Rattle.verdict.proofs.Rules.{refused-accepted}
-
--- what follows the first of several passes, by its answer
-abbrev then : ChannelOutcome → ChannelOutcome → Passed → ChannelOutcome
-then o rest a = elim a [ Changed ↦ rest | Stable ↦ o | Refused r ↦ o ]
-
-then-last : (o rest : ChannelOutcome) (a : Passed) → (a ≡ Changed → ⊥) → then o rest a ≡ o
-then-last o rest Changed h = absurd (h refl)
-then-last o rest Stable h = refl
-then-last o rest (Refused r) h = refl
 
 module _ (q : Quota) (i : ℕ) (s : State) where
   pub run-once : channelRunFor 0 q i s ≡ channelPassOf q i s
@@ -52,12 +42,12 @@ module _ (q : Quota) (i : ℕ) (s : State) where
 
   pub run-next : (n : ℕ) → Continues q i s → channelRunFor (suc n) q i s ≡ channelRunFor n (charged q i) i (passOf s .state)
   unfolding channelRunFor
-  run-next n c = ap (λ (o : ChannelOutcome). then o (channelRunFor n (o .quota) i (o .state)) (o .answer)) (c .outcome)
+  run-next n c = ap (λ (o : ChannelOutcome). after o (channelRunFor n (o .quota) i (o .state)) (o .answer)) (c .outcome)
 
   pub run-last : (n : ℕ) → (channelPassOf q i s .answer ≡ Changed → ⊥) → channelRunFor n q i s ≡ channelPassOf q i s
   unfolding channelRunFor
   run-last zero h = refl
-  run-last (suc n) h = then-last (channelPassOf q i s) (channelRunFor n (channelPassOf q i s .quota) i (channelPassOf q i s .state)) (channelPassOf q i s .answer) h
+  run-last (suc n) h = after-ends (channelPassOf q i s) (channelRunFor n (channelPassOf q i s .quota) i (channelPassOf q i s .state)) (channelPassOf q i s .answer) h
 
   -- so does an outcome of another answer
   pub run-ended : (n : ℕ) {o : ChannelOutcome} → channelPassOf q i s ≡ o → (o .answer ≡ Changed → ⊥) → channelRunFor n q i s ≡ o

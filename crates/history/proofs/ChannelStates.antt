@@ -1,5 +1,4 @@
 -- 24, and 14's pass clause, of a channel's pass and run on any record (02, T-10).
---     overrun-channel                  14's pass clause, for a pass that the quota would pay for
 --     goes-loaded, goes-began          passes that change pixels begin and end at stage 1
 --     stopped-pass, stopped-run        14 under its pass clause
 --     spent-pass, spent-run            24 under its condition
@@ -34,9 +33,9 @@ use Rattle.verdict.specs.Rules.{refusal}
 use Rattle.verdict.proofs.Rules.{refused-accepted}
 
 -- 14's pass clause comes after 24
-overrun-channel : (q : Quota) (i : ℕ) (s : State) → channelRule q i ≡ Accepted → 0 < available q i → Overruns s
+pub stopped-pass : (q : Quota) (i : ℕ) (s : State) → channelRule q i ≡ Accepted → 0 < available q i → Overruns s
     → channelPassOf q i s .answer ≡ passing.Refused (refusal 14 0)
-overrun-channel q i s rule l o = by (channel-way q i s)
+stopped-pass q i s rule l o = by (channel-way q i s)
   where
     ready : Ready s
     ready = sound-ready s (sound s (o .sound)) (λ z. omega (arith, o .loaded))
@@ -67,13 +66,10 @@ module _ (q : Quota) (i : ℕ) (s : State) (rule : channelRule q i ≡ Accepted)
       → channelPassOf (chargedFor k q i) i (afterPasses k s) .answer ≡ passing.Refused r → channelRunOf q i s .answer ≡ passing.Refused r
   refused-at k g l p = ap (λ (u : ChannelOutcome). u .answer) (channel-at q i s rule k g l (refused-changed p)) ∙ p
 
-  pub stopped-pass : 0 < available q i → Overruns s → channelPassOf q i s .answer ≡ passing.Refused (refusal 14 0)
-  stopped-pass l o = overrun-channel q i s rule l o
-
   pub stopped-run : (k : ℕ) → k < available q i → Goes k s → Overruns (afterPasses k s) → channelRunOf q i s .answer ≡ passing.Refused (refusal 14 0)
   stopped-run k l g o =
       let left : 0 < available (chargedFor k q i) i = let z = available-charged-for k q i (omega arith) in omega arith in
-      refused-at k g (omega arith) (overrun-channel (chargedFor k q i) i (afterPasses k s) (rule-after k) left o)
+      refused-at k g (omega arith) (stopped-pass (chargedFor k q i) i (afterPasses k s) (rule-after k) left o)
 
   module _ (ready : Ready s) (z : s .job .stage ≡ 1) where
     pub spent-pass : available q i ≡ 0 → channelPassOf q i s .answer ≡ passing.Refused (refusal 24 i)

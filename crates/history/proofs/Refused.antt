@@ -169,13 +169,13 @@ unaltered c s H n r h b = by c b (refused c s H n h ∙ barred-refused c (length
     by (channelRun c i) b q = unaltered-channel c i s H n r h b
 
 -- on an empty job, and by 25, a channel's call hands the quota back
+unmade-back : (c : Quota) (i : ℕ) (s : State) {r : Refusal} → channelPassOf c i s ≡ unmade r s c → QuotaBack c i s
+unmade-back c i s p = (ap (λ (o : ChannelOutcome). o .quota) p, ap (λ (o : ChannelOutcome). o .quota) (run-unmade c i s p))
+
 pub quota-back : (c : Quota) (i : ℕ) (s : State) (H : History) (n : ℕ) → RelatedTo s H n → (H ≡ empty) ⊎ (channelRule c i ≢ Accepted) → QuotaBack c i s
-quota-back c i s H n h (inl e) = both (empty-unmade c i s (subst (λ (K : History). RelatedTo s K n) e h) .2)
-  where
-    both : {r : Refusal} → channelPassOf c i s ≡ unmade r s c → QuotaBack c i s
-    both p = (ap (λ (o : ChannelOutcome). o .quota) p, ap (λ (o : ChannelOutcome). o .quota) (run-unmade c i s p))
+quota-back c i s H n h (inl e) = unmade-back c i s (empty-unmade c i s (subst (λ (K : History). RelatedTo s K n) e h) .2)
 quota-back c i s H n h (inr bad) = by (channelRule c i) refl
   where
     by : (v : Verdict) → channelRule c i ≡ v → QuotaBack c i s
     by Accepted e = absurd (bad e)
-    by (Refused r) e = let p = channel-barred c i s e in (ap (λ (o : ChannelOutcome). o .quota) p, ap (λ (o : ChannelOutcome). o .quota) (run-unmade c i s p))
+    by (Refused r) e = unmade-back c i s (channel-barred c i s e)

@@ -4,10 +4,12 @@
 --     jobOf e            the record that an entry says
 --     Held s e n         record and areas hold the entry e, after n accepted passes since the load
 --     Related w          the relation, after any list of calls
+--     stage-of, stage-one, stage-two     the stage of a record that holds an entry tells whether the mark stands
 -- Assumes nothing.
-use mathlib.Core.Bool.{Bool, true, cond}
-use mathlib.Core.Path.{_≡_}
+use mathlib.Core.Bool.{Bool, true, false, cond}
+use mathlib.Core.Path.{_≡_, refl, ap}
 use Prim.Native.Nat.{ℕ, _*_, _≤_}
+use native.Mathlib.Omega.{arith}
 use lib.ListN.{length}
 use Rattle.operator.specs.Image.{IsImage, added, removed}
 use Rattle.operator.specs.Pass as operator
@@ -73,3 +75,15 @@ RelatedTo s (holds e) n = Held s e n
 
 abbrev pub Related : Course → Type 0
 Related w = RelatedTo (w .state) (w .history) (w .tally)
+
+-- the stage of a record that holds an entry
+pub stage-of : {s : State} {e : Entry} {n : ℕ} → Held s e n → s .job .stage ≡ stageOf (e .settled)
+stage-of r = ap (λ (j : Job). j .stage) (r .job)
+
+pub stage-one : (b : Bool) → stageOf b ≡ 1 → b ≡ false
+stage-one true q = absurd (omega arith)
+stage-one false q = refl
+
+pub stage-two : (b : Bool) → stageOf b ≡ 2 → b ≡ true
+stage-two true q = refl
+stage-two false q = absurd (omega arith)

@@ -25,10 +25,10 @@ use Rattle.verdict.specs.declared.Refusal.{Refusal}
 use Rattle.verdict.specs.declared.Verdict.the-variants as verdict
 
 -- what follows the first of several passes, by its answer
-abbrev pub after : Outcome → Outcome → Passed → Outcome
+abbrev pub after {ℓ} : {A : Type ℓ} → A → A → Passed → A
 after o rest a = elim a [ Changed ↦ rest | Stable ↦ o | Refused r ↦ o ]
 
-pub after-ends : (o rest : Outcome) (a : Passed) → (a ≡ Changed → ⊥) → after o rest a ≡ o
+pub after-ends {ℓ} : {A : Type ℓ} (o rest : A) (a : Passed) → (a ≡ Changed → ⊥) → after o rest a ≡ o
 after-ends o rest Changed h = absurd (h refl)
 after-ends o rest Stable h = refl
 after-ends o rest (Refused r) h = refl

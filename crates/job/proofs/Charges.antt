@@ -5,7 +5,7 @@
 --     kept-places, kept-at, kept-tab     the reserves that are read: four places, each of them, and all
 --     open-split                         opening is refused by 25 of a call of the last channel, or where the reserves are above the allowance
 --     open-above, open-within            by the sum of the reserves
---     opened-refused, opened-accepted    what opening hands back
+--     opened-refused, opened-whole       what opening hands back
 -- Assumes nothing.
 use mathlib.Core.Bool.{Bool, true, false, cond, not, _||_, _&&_}
 use mathlib.Core.List.{List}
@@ -19,7 +19,7 @@ use lib.ListN.{length, getD, set}
 use lib.Seq.{set-getD, set-set}
 use Rattle.history.specs.declared.Quota.{Quota}
 use Rattle.history.specs.Quota.{maxChannels, kept, openVerdict, openQuota, lacks, channelRule, leftOf, charged, chargedFor}
-use Rattle.history.proofs.Quotas.{left-charged, rule-range}
+use Rattle.history.proofs.Quotas.{left-charged, rule-range, opened-accepted}
 use Rattle.image.specs.Size.{within}
 use Rattle.job.specs.Channels.{opened}
 use Rattle.job.specs.Code.Channels.{openedWith}
@@ -142,6 +142,5 @@ module _ (q : Quota) where
   unfolding openQuota
   opened-refused e = rw e
 
-  pub opened-accepted : openVerdict q ≡ Accepted → opened q ≡ openedWith q (kept q) (q .allowance - sumOf (kept q))
-  unfolding openQuota
-  opened-accepted e = rw e
+  pub opened-whole : openVerdict q ≡ Accepted → opened q ≡ openedWith q (kept q) (q .allowance - sumOf (kept q))
+  opened-whole e = rw (e, opened-accepted q e)

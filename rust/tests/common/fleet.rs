@@ -9,18 +9,18 @@ use mask_cleaner::record::{QuotaRecord, Reason, Refusal, MAX_CHANNELS};
 
 /// A channel's job, its book, and a job of the library that gets plain passes in place of the channel's.
 #[derive(Clone, Debug)]
-pub struct Lane {
+pub struct Member {
     pub state: State,
     pub book: Book,
     alone: State,
 }
 
-impl Lane {
+impl Member {
     /// Empty, with areas of random bytes.
-    pub fn new(lengths: [usize; 2], random: &mut Random) -> Lane {
+    pub fn new(lengths: [usize; 2], random: &mut Random) -> Member {
         let [first, second] = lengths.map(|length| random.bytes(length));
         let state = State::empty(first, second);
-        Lane {
+        Member {
             alone: state.clone(),
             state,
             book: Book::default(),
@@ -76,17 +76,17 @@ impl Given {
 /// A quota that was opened, its channels, and what each of them spent since.
 pub struct Fleet {
     pub quota: QuotaRecord,
-    pub lanes: Vec<Lane>,
+    pub members: Vec<Member>,
     pub spent: [usize; MAX_CHANNELS],
     opened: QuotaRecord,
 }
 
 impl Fleet {
-    pub fn new(allowance: usize, reserves: [usize; MAX_CHANNELS], lanes: Vec<Lane>) -> Fleet {
-        let quota = opened(lanes.len(), allowance, reserves);
+    pub fn new(allowance: usize, reserves: [usize; MAX_CHANNELS], members: Vec<Member>) -> Fleet {
+        let quota = opened(members.len(), allowance, reserves);
         Fleet {
             quota,
-            lanes,
+            members,
             spent: [0; MAX_CHANNELS],
             opened: quota,
         }
@@ -94,25 +94,25 @@ impl Fleet {
 
     /// A plain call on a job.
     pub fn own(&mut self, job: usize, call: &Call, out: &mut [u8]) -> Result<Answer, Refusal> {
-        let Lane { state, book, alone } = &mut self.lanes[job];
+        let Member { state, book, alone } = &mut self.members[job];
         let expected = book.enter(call, state.areas());
         let mut other_out = out.to_vec();
         let answer = state.apply_both(call, out);
         assert_eq!(answer, expected, "{call:?}");
         assert_eq!(alone.apply(Side::Library, call, &mut other_out), answer);
-        self.lanes[job].assert_alone();
+        self.members[job].assert_alone();
         answer
     }
 
     /// A call of a channel on its own job; where there is no such channel, on the first one's.
     pub fn channel(&mut self, call: ChannelCall, channel: usize) -> Result<Answer, Refusal> {
         let (before, spent) = (self.quota, self.spent);
-        let known = (1..=self.lanes.len()).contains(&channel);
+        let known = (1..=self.members.len()).contains(&channel);
         let job = if known { channel - 1 } else { 0 };
-        let lane = &mut self.lanes[job];
+        let member = &mut self.members[job];
         let mut by_book = self.quota;
-        let expected = lane.book.enter_channel(call, &mut by_book, channel);
-        let answer = lane
+        let expected = member.book.enter_channel(call, &mut by_book, channel);
+        let answer = member
             .state
             .apply_channel_both(call, &mut self.quota, channel);
         assert_eq!(answer, expected, "{call:?} {channel} with {before:?}");
@@ -120,10 +120,10 @@ impl Fleet {
         let cost = rest(&before) - rest(&self.quota);
         let at_rest = usize::from(cost == 0 && answer.is_ok());
         for _ in 0..cost + at_rest {
-            let pass = lane.alone.apply(Side::Library, &Call::Pass, &mut []);
+            let pass = member.alone.apply(Side::Library, &Call::Pass, &mut []);
             assert!(pass.is_ok());
         }
-        lane.assert_alone();
+        member.assert_alone();
         if known {
             self.spent[job] += cost;
             self.assert_usable(call, answer.as_ref().err(), channel, spent[job]);
@@ -144,7 +144,7 @@ impl Fleet {
     ) {
         let place = channel - 1;
         let reserve = self.quota.reserves[place];
-        let loaded = self.lanes[place].book.entry.is_some();
+        let loaded = self.members[place].book.entry.is_some();
         if call == ChannelCall::Pass && loaded && spent < reserve {
             assert_eq!(refusal, None, "a pass within the reserve");
         }

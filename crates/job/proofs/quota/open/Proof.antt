@@ -7,7 +7,7 @@ use lib.ListN.{length, getD, take}
 use lib.Seq.{take-all}
 use Rattle.history.specs.Quota.{maxChannels, kept}
 use Rattle.image.proofs.Parts.{part-ends}
-use Rattle.job.proofs.Charges.{kept-places, kept-tab, open-split, open-above, open-within, opened-refused, opened-accepted}
+use Rattle.job.proofs.Charges.{kept-places, kept-tab, open-split, open-above, open-within, opened-refused, opened-whole}
 use Rattle.job.proofs.quota.open.Statement.{statement}
 use Rattle.job.proofs.quota.open.Tie as tie
 use Rattle.seq.proofs.Fronts.{sum-front}
@@ -95,7 +95,7 @@ returns-3 c =
     let sum : loop .loop .pool + sumOf (kept quota) ≡ quota .allowance = rw whole at (loop .loop .inv .2) in
     let pool : loop .loop .pool ≡ quota .allowance - sumOf (kept quota) = omega (arith, sum) in
     let accepted = open-within quota (sym (told .before .before .check .ensures) ∙ told .enum-told .given .1) (omega (arith, sum)) in
-    rw (c .accepted .ensures, left, pool) (sym (opened-accepted quota accepted))
+    rw (c .accepted .ensures, left, pool) (sym (opened-whole quota accepted))
 
 pub open-spec : {M : Type 1} → statement M
 open-spec =
