@@ -1,7 +1,7 @@
 /* Cleans one image through the library: clean TABLE SHEET OUT
    Prints width, height, passes, added, removed; the figures go to standard error. A refusal prints `refused`, its number,
    place, witness and position, and leaves OUT as it is. Exit status: 0 done, 1 refused, 2 wrong use or trouble with a file.
-   OUT is written in place: trouble in the middle of it leaves a part (bin/clean has more care). */
+   OUT is written in place: trouble in the middle of it leaves a part (`mask clean` has more care). */
 #include <stdbool.h>
 #include <stdio.h>
 
