@@ -3,7 +3,6 @@
 use crate::files;
 use mask_cleaner::Refusal;
 use std::fmt::Display;
-use std::io::{self, Write};
 use std::process::ExitCode;
 
 /// The end of a command, or of a step of it.
@@ -19,9 +18,12 @@ pub enum Failure {
     /// A file cannot be read or written, or a text has a mistake.
     Trouble(String),
     /// The library refused. `words` say what, and in which file.
-    Refused { refusal: Refusal, words: String },
-    /// The same, where standard output is the command's file: the line goes to standard error.
-    RefusedAside { refusal: Refusal, words: String },
+    Refused {
+        refusal: Refusal,
+        words: String,
+        /// Standard output is the command's file, so that the line goes beside it, to standard error.
+        aside: bool,
+    },
     /// Everything has been said.
     Said(u8),
 }
@@ -37,20 +39,28 @@ impl Failure {
 
     /// A refusal of what the name says.
     pub fn refused(about: impl Display, refusal: Refusal, words: &str) -> Failure {
-        let words = format!("{about}: refused: {words}");
-        Failure::Refused { refusal, words }
+        Failure::Refused {
+            refusal,
+            words: format!("{about}: refused: {words}"),
+            aside: false,
+        }
     }
 
     /// Says what ended the command, and gives its exit status.
     pub fn report(self) -> ExitCode {
         match self {
             Failure::Usage(text) | Failure::Trouble(text) => say(&text, TROUBLE),
-            Failure::Refused { refusal, words } => match files::print(&line(&refusal)) {
-                Ok(()) => say(&words, REFUSED),
-                Err(failure) => failure.report(),
-            },
-            Failure::RefusedAside { refusal, words } => {
-                files::note(&line(&refusal));
+            Failure::Refused {
+                refusal,
+                words,
+                aside,
+            } => {
+                let line = line(&refusal);
+                if aside {
+                    files::note(&line);
+                } else if let Err(failure) = files::print(&line) {
+                    return failure.report();
+                }
                 say(&words, REFUSED)
             }
             Failure::Said(status) => ExitCode::from(status),
@@ -67,19 +77,4 @@ pub fn line(refusal: &Refusal) -> String {
 fn say(text: &str, status: u8) -> ExitCode {
     files::note(&format!("mask: {text}\n"));
     ExitCode::from(status)
-}
-
-/// What the system says, without its number.
-pub fn told(error: &io::Error) -> String {
-    let text = error.to_string();
-    match text.split_once(" (os error") {
-        Some((words, _)) => words.to_string(),
-        None => text,
-    }
-}
-
-/// Writes all of the text, and sees to it that it is out.
-pub fn write_out(mut to: impl Write, bytes: &[u8]) -> io::Result<()> {
-    to.write_all(bytes)?;
-    to.flush()
 }

@@ -1,6 +1,6 @@
 //! What is read and written: whole files, or `-` for standard input and output.
 
-use crate::failure::{told, write_out, Failure, Outcome, TROUBLE};
+use crate::failure::{Failure, Outcome, TROUBLE};
 use std::ffi::{OsStr, OsString};
 use std::fs::{self, File, OpenOptions};
 use std::io::{self, ErrorKind, Read, Write};
@@ -88,23 +88,26 @@ impl Output {
 
     /// Says a line: on standard output, but beside it where that is the file.
     pub fn say(&self, line: &str) -> Outcome {
+        let line = format!("{line}\n");
         match self {
             Output::Standard => {
-                note(line);
+                note(&line);
                 Ok(())
             }
-            Output::File(_) => print(line),
+            Output::File(_) => print(&line),
         }
     }
 
-    /// What a command ended with, told beside standard output where that is the file.
+    /// What a command ended with, a refusal told beside standard output where that is the file.
     pub fn beside(&self, outcome: Outcome) -> Outcome {
-        match (self, outcome) {
-            (Output::Standard, Err(Failure::Refused { refusal, words })) => {
-                Err(Failure::RefusedAside { refusal, words })
-            }
-            (_, outcome) => outcome,
-        }
+        outcome.map_err(|failure| match (self, failure) {
+            (Output::Standard, Failure::Refused { refusal, words, .. }) => Failure::Refused {
+                refusal,
+                words,
+                aside: true,
+            },
+            (_, failure) => failure,
+        })
     }
 }
 
@@ -159,4 +162,19 @@ fn print_bytes(bytes: &[u8]) -> Outcome {
 /// Prints on standard error; where that cannot be written, there is nobody to tell.
 pub fn note(text: &str) {
     let _ = write_out(io::stderr().lock(), text.as_bytes());
+}
+
+/// Writes all of the bytes, and sees to it that they are out.
+fn write_out(mut to: impl Write, bytes: &[u8]) -> io::Result<()> {
+    to.write_all(bytes)?;
+    to.flush()
+}
+
+/// What the system says, without its number.
+fn told(error: &io::Error) -> String {
+    let text = error.to_string();
+    match text.split_once(" (os error") {
+        Some((words, _)) => words.to_string(),
+        None => text,
+    }
 }

@@ -2,6 +2,7 @@
 
 use crate::failure::{Failure, Outcome};
 use std::ffi::{OsStr, OsString};
+use std::os::unix::ffi::OsStrExt;
 use std::str::FromStr;
 
 /// The words of a sub-command, parted.
@@ -16,20 +17,17 @@ impl Words {
         let (mut positions, mut options) = (Vec::new(), Vec::new());
         let mut words = words.into_iter();
         while let Some(word) = words.next() {
-            let text = word.to_string_lossy().into_owned();
-            if text == "--" {
+            if word == "--" {
                 positions.extend(words.by_ref());
-            } else if !text.starts_with("--") {
+            } else if !word.as_bytes().starts_with(b"--") {
                 positions.push(word);
             } else {
-                let (name, value) = match text.split_once('=') {
-                    Some((name, value)) => (name, Some(OsString::from(value))),
-                    None => (text.as_str(), words.next()),
+                let (name, value) = parted(&word);
+                let shown = name.to_string_lossy();
+                let Some(name) = known.iter().find(|option| name == **option) else {
+                    return Err(Failure::Usage(format!("there is no option {shown}")));
                 };
-                let Some(name) = known.iter().find(|option| **option == name) else {
-                    return Err(Failure::Usage(format!("there is no option {name}")));
-                };
-                let Some(value) = value else {
+                let Some(value) = value.or_else(|| words.next()) else {
                     return Err(Failure::Usage(format!("{name} wants a word after it")));
                 };
                 options.push((*name, value));
@@ -57,6 +55,18 @@ impl Words {
         <[&OsStr; N]>::try_from(self.positions())
             .map_err(|_| Failure::Usage(format!("{N} words are wanted, {found} are given")))
     }
+}
+
+/// An option's name, and its value where they are one word: `--name=value`.
+fn parted(word: &OsStr) -> (&OsStr, Option<OsString>) {
+    let mut parts = word.as_bytes().splitn(2, |byte| *byte == b'=');
+    let name = OsStr::from_bytes(parts.next().unwrap_or_default());
+    (
+        name,
+        parts
+            .next()
+            .map(|value| OsStr::from_bytes(value).to_owned()),
+    )
 }
 
 /// A word that is a number.

@@ -2,6 +2,12 @@
 
 use mask_cleaner::{Reason, Refusal};
 
+// what may be wrong with one of them
+const ELEMENT: &str =
+    "is 0, above 33554431, has the centre (bit 12), or is not above the one before";
+const KEEPER: &str = "is 0, above 33554431, or not above the one before";
+const NUMBER: &str = "has more than four groups, or 0 as the last of several";
+
 /// A position of the 5 × 5 window, row and column from 1.
 pub fn position(position: usize) -> String {
     let (row, column) = (position / 5, position % 5);
@@ -22,21 +28,12 @@ pub fn of(refusal: &Refusal) -> String {
     } = *refusal;
     match (reason, place) {
         (Reason::NumberEnds, _) => format!("the bytes end before or within {}", number(place)),
-        (Reason::NumberForm, _) => {
-            format!(
-                "{} has more than four groups, or 0 as the last of several",
-                number(place)
-            )
-        }
-        (Reason::ElementRange, _) => format!(
-            "element {place} is 0, above 33554431, has the centre (bit 12), or is not above the one before"
-        ),
+        (Reason::NumberForm, _) => format!("{} {NUMBER}", number(place)),
+        (Reason::ElementRange, _) => format!("element {place} {ELEMENT}"),
         (Reason::ElementsDisjoint, _) => {
             format!("element {place} shares no position with element {witness}")
         }
-        (Reason::PersistentRange, _) => format!(
-            "the keeper at place {place} is 0, above 33554431, or not above the one before"
-        ),
+        (Reason::PersistentRange, _) => format!("the keeper at place {place} {KEEPER}"),
         (Reason::NotPersistent, _) => format!(
             "keeper {witness} is not persistent: its position in {} has no partner in element {place}",
             position(at)
@@ -64,24 +61,23 @@ fn number(place: usize) -> String {
 /// What a refusal's number means, whatever its place.
 pub fn brief(reason: Reason) -> String {
     match reason {
-        Reason::NumberEnds => "the bytes end before or within a number",
-        Reason::NumberForm => "a number has more than four groups, or 0 as the last of several",
-        Reason::ElementCount => "there are not 1 to 64 elements",
-        Reason::ElementRange => {
-            "an element is 0, above 33554431, has the centre (bit 12), or is not above the one before"
+        Reason::NumberEnds => "the bytes end before or within a number".to_string(),
+        Reason::NumberForm => format!("a number {NUMBER}"),
+        Reason::ElementCount => "there are not 1 to 64 elements".to_string(),
+        Reason::ElementRange => format!("an element {ELEMENT}"),
+        Reason::PersistentRange => format!("a keeper {KEEPER}"),
+        Reason::NotPersistent => "a keeper is not persistent".to_string(),
+        Reason::BytesLeft => "bytes follow the last keeper".to_string(),
+        Reason::HeaderForm => {
+            "the header is not P4, line feed, width, space, height, line feed".to_string()
         }
-        Reason::PersistentRange => {
-            "a keeper is 0, above 33554431, or not above the one before"
+        Reason::RasterLength => "there are more or fewer bytes than the rows need".to_string(),
+        Reason::RankCount => {
+            "there are not 1 to 4 keepers, or not 2 to 4 behind a leading 0".to_string()
         }
-        Reason::NotPersistent => "a keeper is not persistent",
-        Reason::BytesLeft => "bytes follow the last keeper",
-        Reason::HeaderForm => "the header is not P4, line feed, width, space, height, line feed",
-        Reason::RasterLength => "there are more or fewer bytes than the rows need",
-        Reason::RankCount => "there are not 1 to 4 keepers, or not 2 to 4 behind a leading 0",
-        Reason::SizesDiffer => "a sheet does not have the size of the first",
-        _ => return reason.to_string(),
+        Reason::SizesDiffer => "a sheet does not have the size of the first".to_string(),
+        _ => reason.to_string(),
     }
-    .to_string()
 }
 
 /// The rule behind a refusal, and what mends it.
@@ -95,7 +91,7 @@ pub fn rule(reason: Reason) -> &'static str {
             "An element is a set of positions around a pixel, at least one of them, and never the pixel itself. No two are the same, and in a file they rise; `mask table make` puts them in order."
         }
         Reason::ElementsDisjoint => {
-            "Every two elements share a position: else a pixel could be told to change and to stay. Draw a position into one of them that the other has."
+            "Every two elements share a position: else one could call for black where the other calls for white. Draw a position into one of them that the other has."
         }
         Reason::PersistentRange => {
             "A keeper is a set of positions, at least one of them; it may have the centre. No two are the same, and in a file they rise; `mask table make` puts them in order."

@@ -1,7 +1,7 @@
 //! Several sheets, each cleaned by itself, on several threads. What is said of them comes in the order in which they were given.
 
 use super::clean::cleaned;
-use super::{deliver_quietly, read_sheet, refused};
+use super::{deliver, read_sheet, refused};
 use crate::failure::{line, Failure, Outcome, REFUSED, TROUBLE};
 use crate::files::{self, Output};
 use mask_cleaner::Table;
@@ -86,7 +86,7 @@ fn clean_one(table: &Table, sheet: &Sheet, folder: &Path) -> Outcome<String> {
     let out = Output::at(folder.join(sheet.name).as_os_str())?;
     let file = read_sheet(sheet.path)?;
     let job = cleaned(table, &file).map_err(|refusal| refused(sheet.path, refusal))?;
-    deliver_quietly(job, sheet.path, &out)
+    deliver(job, sheet.path, &out)
 }
 
 /// Prints what was told, in the order of the sheets, and counts on a terminal how many are done.
@@ -132,7 +132,7 @@ impl<'a> Report<'a> {
         let path = sheet.path.to_string_lossy();
         match outcome {
             Ok(said) => files::print(&format!("{path} {said}\n")),
-            Err(Failure::Refused { refusal, words }) => {
+            Err(Failure::Refused { refusal, words, .. }) => {
                 self.status = self.status.max(REFUSED);
                 files::print(&format!("{path} {}", line(&refusal)))?;
                 files::note(&format!("mask: {words}\n"));

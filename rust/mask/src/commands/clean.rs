@@ -52,7 +52,7 @@ fn one(table: &OsStr, sheet: &OsStr, out: &Output) -> Outcome {
     let (table_file, file) = (read_table(table)?, read_sheet(sheet)?);
     let table = table_of(table, &table_file)?;
     let job = cleaned(&table, &file).map_err(|refusal| refused(sheet, refusal))?;
-    deliver(job, sheet, out)
+    out.say(&deliver(job, sheet, out)?)
 }
 
 fn several(positions: &[&OsStr], folder: &OsStr, jobs: Option<usize>) -> Outcome {

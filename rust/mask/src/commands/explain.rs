@@ -27,18 +27,26 @@ fn run(words: Vec<OsString>) -> Outcome {
         return Err(Failure::usage("a NUMBER is wanted"));
     };
     let numbers: Vec<usize> = rest.iter().copied().map(number).collect::<Outcome<_>>()?;
+    if numbers.len() > 3 {
+        return Err(Failure::usage("four numbers at the most are wanted"));
+    }
     let reason = reason(first)?;
-    let says = match numbers.as_slice() {
-        [] => words::brief(reason),
-        [place] => words::of(&Refusal::at(reason, *place)),
-        [place, witness] => words::of(&Refusal::witnessed(reason, *place, *witness, 0)),
-        [place, witness, position] => {
-            words::of(&Refusal::witnessed(reason, *place, *witness, *position))
-        }
-        _ => return Err(Failure::usage("four numbers at the most are wanted")),
+    let (number, says, rule) = (reason.number(), said(reason, &numbers), words::rule(reason));
+    files::print(&format!("{number}: {says}\n{rule}\n"))
+}
+
+/// With fewer numbers than the refusal's words need, what its number means.
+fn said(reason: Reason, numbers: &[usize]) -> String {
+    let needed = match reason {
+        Reason::NotPersistent => 3,
+        Reason::ElementsDisjoint => 2,
+        _ => 1,
     };
-    let number = reason.number();
-    files::print(&format!("{number}: {says}\n{}\n", words::rule(reason)))
+    let field = |at: usize| numbers.get(at).copied().unwrap_or(0);
+    if numbers.len() < needed {
+        return words::brief(reason);
+    }
+    words::of(&Refusal::witnessed(reason, field(0), field(1), field(2)))
 }
 
 fn reason(word: &OsStr) -> Outcome<Reason> {

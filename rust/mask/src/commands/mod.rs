@@ -129,15 +129,9 @@ fn line_of(job: &Job) -> String {
 }
 
 /// Writes the file of a job that rests, and gives its line.
-fn deliver_quietly(mut job: Job, about: &OsStr, out: &Output) -> Outcome<String> {
+fn deliver(mut job: Job, about: &OsStr, out: &Output) -> Outcome<String> {
     let line = line_of(&job);
     let file = job.collect().map_err(|refusal| refused(about, refusal))?;
     out.write(&file)?;
     Ok(line)
-}
-
-/// The same, and says the line.
-fn deliver(job: Job, about: &OsStr, out: &Output) -> Outcome {
-    let line = deliver_quietly(job, about, out)?;
-    out.say(&format!("{line}\n"))
 }

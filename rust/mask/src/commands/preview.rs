@@ -30,5 +30,5 @@ fn preview(sheet: &OsStr, out: &Output) -> Outcome {
     let image = image_at(sheet)?;
     let file = image.preview().and_then(|median| median.to_file());
     out.write(&file.map_err(|refusal| refused(sheet, refusal))?)?;
-    out.say(&format!("{} {}\n", image.width(), image.height()))
+    out.say(&format!("{} {}", image.width(), image.height()))
 }

@@ -69,7 +69,7 @@ fn make_table(path: &OsStr, out: &Output) -> Outcome {
     let file = table.to_file().map_err(|refusal| refused(path, refusal))?;
     out.write(&file)?;
     let (elements, keepers) = (table.elements().len(), table.persistents().len());
-    out.say(&format!("{elements} {keepers}\n"))
+    out.say(&format!("{elements} {keepers}"))
 }
 
 fn told(path: &OsStr, mistake: Mistake) -> Failure {

@@ -36,7 +36,7 @@ fn pooled(table: &OsStr, paths: [&OsStr; 3], out: &Output) -> Outcome {
     let mut job = Job::new();
     let loaded = job.load_three(&table, sheets.each_ref().map(Vec::as_slice));
     let job = rested(job, loaded).map_err(|refusal| sheet_refused(paths, &sheets, refusal))?;
-    deliver(job, a, out)
+    out.say(&deliver(job, a, out)?)
 }
 
 /// The sheet that a refusal is about: 26 says which; else it is the first that is refused by itself.
