@@ -6,21 +6,9 @@ use common::{file, report, sample, Folder, MASK};
 use mask_cleaner::TableRecord;
 use reference::cases::{median, random_cut, random_image, ring, Random};
 use reference::image::{file_of, majority, Image};
-use reference::pass::{changes, one_pass};
+use reference::pass::{changes, rest};
 use reference::strip::parts_of;
 use std::process::Command;
-
-/// The passes until nothing changes, and the last image.
-fn rest(image: &Image, table: &TableRecord) -> (usize, Image) {
-    let (mut passes, mut image) = (0, image.clone());
-    loop {
-        let next = one_pass(&image, table);
-        if next == image {
-            return (passes, image);
-        }
-        (passes, image) = (passes + 1, next);
-    }
-}
 
 /// The line of a sheet that was cleaned, and its file.
 fn cleaned(image: &Image, table: &TableRecord) -> (String, Vec<u8>) {

@@ -138,10 +138,7 @@ fn previews_and_figures() {
             folder.get("out"),
             file_of(&Image::new(width, height, &median))
         );
-        let mut clean = image.clone();
-        while pass::one_pass(&clean, &ring()) != clean {
-            clean = pass::one_pass(&clean, &ring());
-        }
+        let (_, clean) = pass::rest(&image, &ring());
         let (added, removed) = pass::changes(&image, &clean);
         let figures = folder.mask(&["figures", &sample("ring.mtb"), "sheet"]);
         let (doubled, pixels) = (2000 * clean.black(), clean.pixels.len());

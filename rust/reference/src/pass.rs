@@ -158,6 +158,18 @@ pub fn preview(width: usize, height: usize, pixels: &[u8], area: &mut [u8]) -> R
     image::fill(area, &plain(&image, &median_elements()).pixels)
 }
 
+/// The passes until nothing changes, and the stable image.
+pub fn rest(image: &Image, table: &TableRecord) -> (usize, Image) {
+    let (mut passes, mut image) = (0, image.clone());
+    loop {
+        let next = one_pass(&image, table);
+        if next == image {
+            return (passes, image);
+        }
+        (passes, image) = (passes + 1, next);
+    }
+}
+
 /// How many pixels go from 0 to 1 and from 1 to 0 between two images of a size.
 pub fn changes(before: &Image, after: &Image) -> (usize, usize) {
     let count = |from, to| {

@@ -11,20 +11,8 @@ use reference::cases::{Kind, Random};
 use reference::fast::Filter;
 use reference::image::{majority, Image};
 use reference::model::{Answer, Book, Call};
-use reference::pass::{changes, one_pass, plain};
+use reference::pass::{changes, one_pass, plain, rest};
 use reference::{job, strip, table::check};
-
-/// The passes until nothing changes, and the last image.
-fn rest(image: &Image, table: &TableRecord) -> (usize, Image) {
-    let (mut passes, mut image) = (0, image.clone());
-    loop {
-        let next = one_pass(&image, table);
-        if next == image {
-            return (passes, image);
-        }
-        (passes, image) = (passes + 1, next);
-    }
-}
 
 fn only(width: usize, height: usize, black: impl Fn(usize, usize) -> bool) -> Image {
     Image::from_fn(width, height, |x, y| u8::from(black(x, y)))
