@@ -36,7 +36,6 @@ struct Picture {
 }
 
 /// What is wrong with a text, and where: line and column count from 1.
-#[derive(Debug, PartialEq, Eq)]
 pub struct Mistake {
     pub line: usize,
     pub column: usize,
@@ -169,10 +168,10 @@ impl Drawing {
         let rank = self.rank(place);
         let told = match reason {
             Reason::ElementRange => {
-                range_words(ELEMENT, element(place), element(place.wrapping_sub(1)))
+                range_words(ELEMENT, element(place), element(place.saturating_sub(1)))
             }
             Reason::PersistentRange => {
-                range_words(KEEPER, keeper(rank), keeper(rank.wrapping_sub(1)))
+                range_words(KEEPER, keeper(rank), keeper(rank.saturating_sub(1)))
             }
             Reason::ElementsDisjoint => pair_words(element(place), element(witness)),
             Reason::NotPersistent => partner_words(keeper(witness), element(place), position),
@@ -199,8 +198,8 @@ fn picture_at(list: &[Picture], number: usize) -> Option<Picture> {
 
 /// Why a picture is none of an element, or none of a keeper: it is empty, has the centre, or is drawn before.
 fn range_words(word: &str, picture: Option<Picture>, before: Option<Picture>) -> Option<String> {
-    let Picture { mask, line } = picture?;
-    let shown = picture::of_masks(&[(format!("line {line}"), mask)]);
+    let picture = picture?;
+    let Picture { mask, line } = picture;
     let words = match before {
         _ if mask == 0 => format!("the {word} of line {line} is empty"),
         Some(before) if before.mask == mask => {
@@ -211,7 +210,7 @@ fn range_words(word: &str, picture: Option<Picture>, before: Option<Picture>) ->
         }
         _ => format!("the {word} of line {line} has the centre, which is the pixel itself"),
     };
-    Some(format!("{words}\n{}", shown.trim_end()))
+    Some(format!("{words}\n{}", pictures(&[picture])))
 }
 
 /// Two elements share no position.

@@ -3,7 +3,7 @@
 //!
 //! - [`commands`]: a module for each sub-command, and the list of them.
 //! - [`words`]: a refusal in words. [`drawing`]: tables as text. [`picture`]: sheets and masks as text.
-//! - [`files`]: what is read and written. [`options`]: the words of the command line. [`failure`]: what may end a command.
+//! - [`files`]: what is read and written. [`arguments`]: the words of the command line. [`failure`]: what may end a command.
 
 // nothing that panics: a line that cannot be written is trouble like any other
 #![deny(
@@ -14,11 +14,12 @@
 #![deny(clippy::expect_used, clippy::unwrap_used)]
 #![deny(clippy::print_stderr, clippy::print_stdout)]
 
+mod arguments;
 mod commands;
 mod drawing;
 mod failure;
 mod files;
-mod options;
+
 mod picture;
 mod words;
 

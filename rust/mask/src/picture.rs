@@ -64,7 +64,7 @@ fn character((position, is_in): (usize, bool)) -> char {
 pub fn of_masks(titled: &[(String, u32)]) -> String {
     let wide = titled.iter().map(|(title, _)| title.len()).max();
     let wide = wide.unwrap_or(0).max(SIDE);
-    let mut lines = vec![String::new(); SIDE.saturating_add(1)];
+    let mut lines = vec![String::new(); SIDE + 1];
     for (title, mask) in titled {
         let column = std::iter::once(title.clone()).chain(of_mask(*mask));
         for (line, cell) in lines.iter_mut().zip(column) {

@@ -1,5 +1,6 @@
 //! A refusal in words, for people. Table and sheet speak 01's language: elements and keepers.
 
+use crate::picture::{CENTRE, SIDE};
 use mask_cleaner::{Reason, Refusal};
 
 // what may be wrong with one of them
@@ -10,12 +11,14 @@ const NUMBER: &str = "has more than four groups, or 0 as the last of several";
 
 /// A position of the 5 × 5 window, row and column from 1.
 pub fn position(position: usize) -> String {
-    let (row, column) = (position / 5, position % 5);
+    let (row, column) = (position / SIDE, position % SIDE);
     let (row, column) = (row.saturating_add(1), column.saturating_add(1));
-    match position {
-        12 => "row 3, column 3 (the centre)".to_string(),
-        _ => format!("row {row}, column {column}"),
-    }
+    let centre = if position == CENTRE {
+        " (the centre)"
+    } else {
+        ""
+    };
+    format!("row {row}, column {column}{centre}")
 }
 
 /// What a refusal says, its place and what 5 and 7 give beside it included.

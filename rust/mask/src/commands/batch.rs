@@ -50,9 +50,14 @@ pub fn clean(table: &Table, sheets: &[Sheet], folder: &Path, jobs: Option<usize>
     let next = AtomicUsize::new(0);
     let (tell, told) = channel();
     thread::scope(|scope| {
-        for _ in 0..threads {
+        let start = |_| {
             let (tell, next) = (tell.clone(), &next);
-            scope.spawn(move || work(table, sheets, folder, next, &tell));
+            let worker = move || work(table, sheets, folder, next, &tell);
+            thread::Builder::new().spawn_scoped(scope, worker).ok()
+        };
+        // where the system has no more threads, the first ones do the work
+        if (0..threads).map_while(start).count() == 0 {
+            return Err(Failure::Trouble("no thread can be started".to_string()));
         }
         drop(tell);
         let mut report = Report::new(sheets);

@@ -1,9 +1,9 @@
 //! `mask clean`: one sheet, or several into a folder.
 
 use super::{batch, deliver, read_sheet, read_table, refused, rested, table_of, Command};
+use crate::arguments::{number, Arguments};
 use crate::failure::{Failure, Outcome};
 use crate::files::{self, Output};
-use crate::options::{number, Words};
 use mask_cleaner::{Job, Table};
 use std::ffi::{OsStr, OsString};
 
@@ -34,15 +34,15 @@ const INTO: &str = "--into";
 const JOBS: &str = "--jobs";
 
 fn run(words: Vec<OsString>) -> Outcome {
-    let words = Words::new(words, &[INTO, JOBS])?;
-    let jobs: Option<usize> = words.option(JOBS)?.map(number).transpose()?;
-    if let Some(folder) = words.option(INTO)? {
-        return several(&words.positions(), folder, jobs);
+    let arguments = Arguments::new(words, &[INTO, JOBS])?;
+    let jobs: Option<usize> = arguments.option(JOBS)?.map(number).transpose()?;
+    if let Some(folder) = arguments.option(INTO)? {
+        return several(&arguments.positions(), folder, jobs);
     }
     if jobs.is_some() {
         return Err(Failure::usage("--jobs is for several sheets, with --into"));
     }
-    let [table, sheet, out] = words.exactly()?;
+    let [table, sheet, out] = arguments.exactly()?;
     files::only_one_standard(&[table, sheet])?;
     let out = Output::at(out)?;
     out.beside(one(table, sheet, &out))

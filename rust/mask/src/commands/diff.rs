@@ -1,9 +1,9 @@
 //! `mask diff`: what changed from one sheet to another.
 
 use super::{image_at, Command};
+use crate::arguments::Arguments;
 use crate::failure::{Failure, Outcome};
 use crate::files;
-use crate::options::Words;
 use mask_cleaner::Image;
 use std::ffi::OsString;
 
@@ -21,8 +21,8 @@ exit status: 0 shown, 1 a sheet is refused, 2 wrong use, trouble with a file, or
 };
 
 fn run(words: Vec<OsString>) -> Outcome {
-    let words = Words::new(words, &[])?;
-    let [before, after] = words.exactly()?;
+    let arguments = Arguments::new(words, &[])?;
+    let [before, after] = arguments.exactly()?;
     files::only_one_standard(&[before, after])?;
     let (old, new) = (image_at(before)?, image_at(after)?);
     if (old.width(), old.height()) != (new.width(), new.height()) {

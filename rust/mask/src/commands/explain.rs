@@ -1,9 +1,9 @@
 //! `mask explain`: a refusal in words.
 
 use super::Command;
+use crate::arguments::{number, Arguments};
 use crate::failure::{Failure, Outcome};
 use crate::files;
-use crate::options::{number, Words};
 use crate::words;
 use mask_cleaner::{Reason, Refusal};
 use std::ffi::{OsStr, OsString};
@@ -21,8 +21,8 @@ exit status: 0 said, 2 wrong use, or no refusal has the number
 };
 
 fn run(words: Vec<OsString>) -> Outcome {
-    let words = Words::new(words, &[])?;
-    let positions = words.positions();
+    let arguments = Arguments::new(words, &[])?;
+    let positions = arguments.positions();
     let [first, rest @ ..] = positions.as_slice() else {
         return Err(Failure::usage("a NUMBER is wanted"));
     };

@@ -2,9 +2,9 @@
 
 use super::clean::cleaned;
 use super::{read_sheet, read_table, refused, table_of, Command};
+use crate::arguments::Arguments;
 use crate::failure::Outcome;
 use crate::files;
-use crate::options::Words;
 use std::ffi::OsString;
 
 pub const COMMAND: Command = Command {
@@ -21,8 +21,8 @@ exit status: 0 done, 1 refused, 2 wrong use or trouble with a file
 };
 
 fn run(words: Vec<OsString>) -> Outcome {
-    let words = Words::new(words, &[])?;
-    let [table, sheet] = words.exactly()?;
+    let arguments = Arguments::new(words, &[])?;
+    let [table, sheet] = arguments.exactly()?;
     files::only_one_standard(&[table, sheet])?;
     let (table_file, file) = (read_table(table)?, read_sheet(sheet)?);
     let table = table_of(table, &table_file)?;

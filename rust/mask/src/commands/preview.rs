@@ -1,9 +1,9 @@
 //! `mask preview`: the 3 × 3 median of a sheet.
 
 use super::{image_at, refused, Command};
+use crate::arguments::Arguments;
 use crate::failure::Outcome;
 use crate::files::Output;
-use crate::options::Words;
 use std::ffi::{OsStr, OsString};
 
 pub const COMMAND: Command = Command {
@@ -20,8 +20,8 @@ exit status: 0 done, 1 refused, 2 wrong use or trouble with a file
 };
 
 fn run(words: Vec<OsString>) -> Outcome {
-    let words = Words::new(words, &[])?;
-    let [sheet, out] = words.exactly()?;
+    let arguments = Arguments::new(words, &[])?;
+    let [sheet, out] = arguments.exactly()?;
     let out = Output::at(out)?;
     out.beside(preview(sheet, &out))
 }

@@ -1,9 +1,9 @@
 //! `mask show`: a sheet or a table as text.
 
 use super::{refused, table_of, Command};
+use crate::arguments::Arguments;
 use crate::failure::Outcome;
 use crate::files;
-use crate::options::Words;
 use crate::picture;
 use mask_cleaner::{Image, Table, MAX_IMAGE_FILE};
 use std::ffi::OsString;
@@ -29,8 +29,8 @@ const FIRST_OF_SHEETS: u8 = b'P';
 const BESIDE: usize = 6;
 
 fn run(words: Vec<OsString>) -> Outcome {
-    let words = Words::new(words, &[])?;
-    let [path] = words.exactly()?;
+    let arguments = Arguments::new(words, &[])?;
+    let [path] = arguments.exactly()?;
     let file = files::read(path, MAX_IMAGE_FILE)?;
     if file.first() != Some(&FIRST_OF_SHEETS) {
         return files::print(&pictures(&table_of(path, &file)?));

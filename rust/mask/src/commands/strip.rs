@@ -2,9 +2,9 @@
 
 use super::batch::{names, Sheet};
 use super::{image_at, line_of, read_table, refused, rested, table_of, Command};
+use crate::arguments::Arguments;
 use crate::failure::{Failure, Outcome};
 use crate::files::{self, Output};
-use crate::options::Words;
 use mask_cleaner::{Image, Job, Reason, Refusal, StripRecord, Table, MAX_STRIP_PIXELS};
 use std::ffi::{OsStr, OsString};
 
@@ -26,9 +26,9 @@ exit status: 0 done, 1 refused, 2 wrong use or trouble with a file
 const INTO: &str = "--into";
 
 fn run(words: Vec<OsString>) -> Outcome {
-    let words = Words::new(words, &[INTO])?;
-    let positions = words.positions();
-    let Some(folder) = words.option(INTO)? else {
+    let arguments = Arguments::new(words, &[INTO])?;
+    let positions = arguments.positions();
+    let Some(folder) = arguments.option(INTO)? else {
         return Err(Failure::usage("--into FOLDER is wanted"));
     };
     let [table, paths @ ..] = positions.as_slice() else {

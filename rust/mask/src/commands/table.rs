@@ -1,10 +1,10 @@
 //! `mask table make` and `mask table show`: tables from drawings, and back.
 
 use super::{read_table, refused, table_of, Command};
+use crate::arguments::Arguments;
 use crate::drawing::{self, Mistake};
 use crate::failure::{Failure, Outcome};
 use crate::files::{self, Output};
-use crate::options::Words;
 use std::ffi::{OsStr, OsString};
 
 pub const MAKE: Command = Command {
@@ -47,8 +47,8 @@ exit status: 0 shown, 1 refused, 2 wrong use or trouble with a file
 const MAX_TEXT: usize = 1 << 20;
 
 fn make(words: Vec<OsString>) -> Outcome {
-    let words = Words::new(words, &[])?;
-    let [text, out] = words.exactly()?;
+    let arguments = Arguments::new(words, &[])?;
+    let [text, out] = arguments.exactly()?;
     let out = Output::at(out)?;
     out.beside(make_table(text, &out))
 }
@@ -85,8 +85,8 @@ fn told(path: &OsStr, mistake: Mistake) -> Failure {
 }
 
 fn show(words: Vec<OsString>) -> Outcome {
-    let words = Words::new(words, &[])?;
-    let [path] = words.exactly()?;
+    let arguments = Arguments::new(words, &[])?;
+    let [path] = arguments.exactly()?;
     let table = table_of(path, &read_table(path)?)?;
     files::print(&drawing::text_of(&table))
 }

@@ -1,9 +1,9 @@
 //! `mask three`: the majority of three cameras, cleaned.
 
 use super::{deliver, read_sheet, read_table, refused, rested, table_of, Command};
+use crate::arguments::Arguments;
 use crate::failure::{Failure, Outcome};
 use crate::files::{self, Output};
-use crate::options::Words;
 use mask_cleaner::{Image, Job, Reason, Refusal};
 use std::ffi::{OsStr, OsString};
 
@@ -21,8 +21,8 @@ exit status: 0 done, 1 refused, 2 wrong use or trouble with a file
 };
 
 fn run(words: Vec<OsString>) -> Outcome {
-    let words = Words::new(words, &[])?;
-    let [table, a, b, c, out] = words.exactly()?;
+    let arguments = Arguments::new(words, &[])?;
+    let [table, a, b, c, out] = arguments.exactly()?;
     files::only_one_standard(&[table, a, b, c])?;
     let out = Output::at(out)?;
     out.beside(pooled(table, [a, b, c], &out))

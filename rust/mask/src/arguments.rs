@@ -5,15 +5,15 @@ use std::ffi::{OsStr, OsString};
 use std::os::unix::ffi::OsStrExt;
 use std::str::FromStr;
 
-/// The words of a sub-command, parted.
-pub struct Words {
+/// The words of a sub-command, told apart.
+pub struct Arguments {
     positions: Vec<OsString>,
     options: Vec<(&'static str, OsString)>,
 }
 
-impl Words {
-    /// Parts the words; `known` are the options, each of which has a value.
-    pub fn new(words: Vec<OsString>, known: &[&'static str]) -> Outcome<Words> {
+impl Arguments {
+    /// Tells the words apart; `known` are the options, each of which has a value.
+    pub fn new(words: Vec<OsString>, known: &[&'static str]) -> Outcome<Arguments> {
         let (mut positions, mut options) = (Vec::new(), Vec::new());
         let mut words = words.into_iter();
         while let Some(word) = words.next() {
@@ -33,7 +33,7 @@ impl Words {
                 options.push((*name, value));
             }
         }
-        Ok(Words { positions, options })
+        Ok(Arguments { positions, options })
     }
 
     /// The value of an option that may be given once.
@@ -61,12 +61,8 @@ impl Words {
 fn parted(word: &OsStr) -> (&OsStr, Option<OsString>) {
     let mut parts = word.as_bytes().splitn(2, |byte| *byte == b'=');
     let name = OsStr::from_bytes(parts.next().unwrap_or_default());
-    (
-        name,
-        parts
-            .next()
-            .map(|value| OsStr::from_bytes(value).to_owned()),
-    )
+    let value = parts.next().map(OsStr::from_bytes);
+    (name, value.map(OsStr::to_owned))
 }
 
 /// A word that is a number.
