@@ -153,6 +153,10 @@ fn previews_and_figures() {
     }
     let worn = folder.mask(&["figures", &sample("median.mtb"), &sample("worn.pbm")]);
     assert_eq!(worn.out_text(), "balance -30 cover 344\n");
+    // 1 black of 16 pixels is 62.5, and a half goes to the even one (02, T-05)
+    folder.put("corner", b"P4\n4 4\n\0\x40\0\0");
+    let corner = folder.mask(&["figures", &sample("ring.mtb"), "corner"]);
+    assert_eq!(corner.out_text(), "balance 0 cover 62\n");
     report("previews and figures: 60");
 }
 
