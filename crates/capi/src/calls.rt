@@ -14,25 +14,25 @@ use history::{Job, Quota};
 use image::strip::Strip;
 use table::Table;
 
-#[derive(Drop)]
+#[derive(Clone, Copy)]
 pub struct LoadedBy {
     pub answer: Checked,
     pub job: Job,
 }
 
-#[derive(Drop)]
+#[derive(Clone, Copy)]
 pub struct PassedBy {
     pub answer: Progress,
     pub job: Job,
 }
 
-#[derive(Drop)]
+#[derive(Clone, Copy)]
 pub struct CollectedBy {
     pub answer: FileLength,
     pub job: Job,
 }
 
-#[derive(Drop)]
+#[derive(Clone, Copy)]
 pub struct MeteredBy {
     pub answer: ChannelProgress,
     pub job: Job,

@@ -1,4 +1,6 @@
 // The C interface: one function for each call of the libraries. include/mask_cleaner.h declares them.
+#![tactic(auto)]
+
 mod answers;
 mod calls;
 
@@ -29,7 +31,7 @@ use verdict::Verdict;
 // What every answer for C starts with. Number 0 is "accepted"; else it is the refusal, and all that follows is zero,
 // but for a quota.
 #[repr(C)]
-#[derive(Drop)]
+#[derive(Clone, Copy)]
 pub struct Checked {
     pub number: u32,
     pub place: usize,
@@ -38,14 +40,14 @@ pub struct Checked {
 }
 
 #[repr(C)]
-#[derive(Drop)]
+#[derive(Clone, Copy)]
 pub struct TableAnswer {
     pub checked: Checked,
     pub table: Table,
 }
 
 #[repr(C)]
-#[derive(Drop)]
+#[derive(Clone, Copy)]
 pub struct ImageSize {
     pub checked: Checked,
     pub width: usize,
@@ -53,7 +55,7 @@ pub struct ImageSize {
 }
 
 #[repr(C)]
-#[derive(Drop)]
+#[derive(Clone, Copy)]
 pub struct FileLength {
     pub checked: Checked,
     pub length: usize,
@@ -61,7 +63,7 @@ pub struct FileLength {
 
 // Stable is 1 for 01's "at rest", 0 for "changed".
 #[repr(C)]
-#[derive(Drop)]
+#[derive(Clone, Copy)]
 pub struct Progress {
     pub checked: Checked,
     pub stable: u32,
@@ -69,7 +71,7 @@ pub struct Progress {
 
 // The first bytes of an area: 1 the first, 2 the second, 0 where it is refused.
 #[repr(C)]
-#[derive(Drop)]
+#[derive(Clone, Copy)]
 pub struct Part {
     pub checked: Checked,
     pub area: u32,
@@ -77,7 +79,7 @@ pub struct Part {
 }
 
 #[repr(C)]
-#[derive(Drop)]
+#[derive(Clone, Copy)]
 pub struct FiguresAnswer {
     pub checked: Checked,
     pub balance: i64,
@@ -86,14 +88,14 @@ pub struct FiguresAnswer {
 
 // The quota afterwards comes back in every answer, also in a refused one (02, T-10).
 #[repr(C)]
-#[derive(Drop)]
+#[derive(Clone, Copy)]
 pub struct QuotaAnswer {
     pub checked: Checked,
     pub quota: Quota,
 }
 
 #[repr(C)]
-#[derive(Drop)]
+#[derive(Clone, Copy)]
 pub struct ChannelProgress {
     pub checked: Checked,
     pub stable: u32,

@@ -3,14 +3,14 @@ ghost use Rattle.std.specs.Prelude.{◌≡◌};
 ghost use Rattle.io.specs.Counts.{IsPrefixLen};
 
 // How many bytes of a buffer came from a file, and whether it is there and cannot be read.
-#[derive(Drop)]
+#[derive(Clone, Copy)]
 pub(crate) struct Input {
     pub length: usize,
     pub failed: bool,
 }
 
 // A new file, and its name. The descriptor is below 0 where none could be made.
-#[derive(Drop)]
+#[derive(Clone, Copy)]
 struct Part {
     file: i32,
     name: [u8; 17],

@@ -1,4 +1,6 @@
 // The cleaning program (01, Trial sheets and tables): table.mtb and sheet.pbm in, clean.pbm and one line out.
+#![tactic(auto)]
+
 mod files;
 mod say;
 

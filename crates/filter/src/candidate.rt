@@ -102,7 +102,7 @@ fn is_among(pairs: &[usize; PARTS], count: usize, a: usize, b: usize) -> bool
 }
 
 // Two positions of an element.
-#[derive(Drop)]
+#[derive(Clone, Copy)]
 struct Pair {
     low: usize,
     high: usize,

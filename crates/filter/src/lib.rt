@@ -1,4 +1,6 @@
 // The modified switch operator on images.
+#![tactic(auto)]
+
 pub mod apply;
 mod blocks;
 mod candidate;
@@ -22,14 +24,14 @@ use image::strip::PartCounts;
 use verdict::Refusal;
 
 // What one pass answers: the pixels that went from 0 to 1 and from 1 to 0.
-#[derive(Drop)]
+#[derive(Clone, Copy)]
 pub enum Filtered {
     Counts { added: usize, removed: usize },
     Refused(Refusal),
 }
 
 // What passes one after the other may do.
-#[derive(Drop)]
+#[derive(Clone, Copy)]
 pub struct Budget {
     pub limit: usize, // passes that change pixels, after which they stop
     pub most: usize, // passes that change pixels: one more is not made
@@ -37,7 +39,7 @@ pub struct Budget {
 }
 
 // Why they end: nothing changes; the limit is reached; `most` or `room` would be exceeded; refused.
-#[derive(Drop)]
+#[derive(Clone, Copy)]
 pub enum End {
     Stable,
     Limit,
@@ -46,7 +48,7 @@ pub enum End {
 }
 
 // The passes that changed pixels, and the pixels that went from 0 to 1 and from 1 to 0 in them.
-#[derive(Drop)]
+#[derive(Clone, Copy)]
 pub struct Repeated {
     pub passes: usize,
     pub added: usize,
@@ -55,7 +57,7 @@ pub struct Repeated {
 }
 
 // One pass over a strip: the pixels that went from 0 to 1 and from 1 to 0, in all and of each part, and how it ended. Where it is not made, all are 0.
-#[derive(Drop)]
+#[derive(Clone, Copy)]
 pub struct Crossed {
     pub added: usize,
     pub removed: usize,

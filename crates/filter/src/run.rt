@@ -20,7 +20,7 @@ use crate::plane::RIM;
 use crate::{Budget, End, Repeated, blocks, candidate, plane, rows, scratch, show};
 
 // How the passes go on after one: it changed pixels, it changed none, or it is not made, since the budget does not allow it.
-#[derive(Drop)]
+#[derive(Clone, Copy)]
 pub(crate) enum Way {
     Onward,
     Rests,
@@ -28,7 +28,7 @@ pub(crate) enum Way {
 }
 
 // One pass, and the pixels that it changed.
-#[derive(Drop)]
+#[derive(Clone, Copy)]
 pub(crate) struct Turn {
     way: Way,
     added: usize,

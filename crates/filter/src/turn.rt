@@ -9,7 +9,7 @@ use crate::plane;
 use crate::plane::{BAND, HALO, RIM, STEP};
 
 // The pixels that go from 0 to 1 and from 1 to 0.
-#[derive(Drop)]
+#[derive(Clone, Copy)]
 pub(crate) struct Changes {
     pub added: usize,
     pub removed: usize,

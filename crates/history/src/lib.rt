@@ -1,11 +1,13 @@
 // The job record, the quota and what the calls on a job answer. No code: the definitions of the calls and demand 3.
+#![tactic(auto)]
+
 use image::strip::{PartCounts, Strip};
 use table::Table;
 use verdict::Refusal;
 
 // Stage 0 empty, 1 loaded, 2 stable (01: at rest). An empty record has every field zero. A single image has one part (02, T-08); places past the parts are 0.
 #[repr(C)]
-#[derive(Drop)]
+#[derive(Clone, Copy)]
 pub struct Job {
     pub stage: u8,
     pub width: usize,
@@ -19,14 +21,14 @@ pub struct Job {
 }
 
 // What a pass or a run answers: 01's "changed", "at rest", or a refusal.
-#[derive(Drop)]
+#[derive(Clone, Copy)]
 pub enum Passed {
     Changed,
     Stable,
     Refused(Refusal),
 }
 
-#[derive(Drop)]
+#[derive(Clone, Copy)]
 pub enum Figured {
     Figures { balance: i64, cover: usize },
     Refused(Refusal),
@@ -37,7 +39,7 @@ pub const MAX_CHANNELS: usize = 4;
 // An allowance of passes that up to four channels share (02, T-10: a round, its lanes). Each channel, counted from 1, has a reserve (02: its floor),
 // of which `left` is left; what the reserves leave of the allowance is the pool.
 #[repr(C)]
-#[derive(Drop)]
+#[derive(Clone, Copy)]
 pub struct Quota {
     pub channels: usize,
     pub allowance: usize,

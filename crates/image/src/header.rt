@@ -21,7 +21,7 @@ const MAGIC_LENGTH: usize = 3;
 pub(crate) const MAX_LENGTH: usize = MAGIC_LENGTH + 2 * (number::MAX_DIGITS + 1);
 
 // The sizes that a header states, and where the raster starts.
-#[derive(Drop)]
+#[derive(Clone, Copy)]
 pub(crate) enum Header {
     Found {
         width: usize,

@@ -8,7 +8,7 @@ use crate::{header, size};
 use verdict::Refusal;
 
 // The image's size and where its raster starts, or the refusal.
-#[derive(Drop)]
+#[derive(Clone, Copy)]
 pub(crate) enum Layout {
     Image {
         width: usize,

@@ -1,5 +1,7 @@
 // Image files (01: sheets): raw PBM in one strict form, read into a lent area of pixel bytes and written from pixel bytes. A pixel is 0 or 1,
 // one byte in memory, in row order.
+#![tactic(auto)]
+
 ghost use Rattle.std.specs.Prelude.{◌≡◌, length};
 ghost use Rattle.image.specs.File.{image_read, image_area, pixel_verdict, image_written, image_output};
 
@@ -21,7 +23,7 @@ mod unpack;
 pub const MAX_FILE: usize = header::MAX_LENGTH + size::MAX_RASTER;
 
 // The size of the image read, or the refusal.
-#[derive(Drop)]
+#[derive(Clone, Copy)]
 pub enum ImageRead {
     Size { width: usize, height: usize },
     Refused(Refusal),

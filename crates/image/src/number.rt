@@ -15,7 +15,7 @@ const HUNDRED: usize = RADIX * RADIX;
 pub(crate) const MAX_DIGITS: usize = 3;
 
 // A number and the position after the byte that ends it.
-#[derive(Drop)]
+#[derive(Clone, Copy)]
 pub(crate) enum Number {
     Value { value: usize, next: usize },
     Malformed,

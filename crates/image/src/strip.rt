@@ -22,7 +22,7 @@ pub const MAX_ROWS: usize = MAX_PARTS * MAX_SIDE;
 
 // The number of parts, and the width and height of each. Places past the number are not looked at.
 #[repr(C)]
-#[derive(Drop)]
+#[derive(Clone, Copy)]
 pub struct Strip {
     pub parts: usize,
     pub widths: [usize; MAX_PARTS],
@@ -31,7 +31,7 @@ pub struct Strip {
 
 // Of each part, the pixels that went from 0 to 1 and from 1 to 0.
 #[repr(C)]
-#[derive(Drop)]
+#[derive(Clone, Copy)]
 pub struct PartCounts {
     pub added: [usize; MAX_PARTS],
     pub removed: [usize; MAX_PARTS],

@@ -14,14 +14,14 @@ use crate::{quota, sound, step};
 use history::{Job, Passed, Quota};
 use verdict::Verdict;
 
-#[derive(Drop)]
+#[derive(Clone, Copy)]
 pub struct Metered {
     pub answer: Passed,
     pub quota: Quota,
 }
 
 // What a call that takes the record by value answers, and the record afterwards.
-#[derive(Drop)]
+#[derive(Clone, Copy)]
 pub struct ChannelStepped {
     pub answer: Metered,
     pub job: Job,

@@ -1,6 +1,8 @@
 // The calls on a job (01, The job). Each promise says the answer, the record and both areas afterwards. Each call checks the record with its areas
 // first (14), and a refused call alters nothing; a run that 14's pass clause stops keeps the passes before it. The loads, pass, run and collect come
 // in two forms: `.._core` takes the record by value and hands it back, and the form that 01 names is lent the record and writes it back.
+#![tactic(auto)]
+
 ghost use Rattle.std.specs.Prelude.{◌≡◌, min, length};
 ghost use Rattle.history.specs.Call.{view, figures, state_of};
 ghost use Rattle.history.specs.Collect.{collect_written, collect_output, collect_state};
@@ -29,19 +31,19 @@ mod sound;
 mod step;
 
 // What a call that takes the record by value answers, and the record afterwards.
-#[derive(Drop)]
+#[derive(Clone, Copy)]
 pub struct Loaded {
     pub answer: Verdict,
     pub job: Job,
 }
 
-#[derive(Drop)]
+#[derive(Clone, Copy)]
 pub struct Stepped {
     pub answer: Passed,
     pub job: Job,
 }
 
-#[derive(Drop)]
+#[derive(Clone, Copy)]
 pub struct Emptied {
     pub answer: Written,
     pub job: Job,

@@ -7,7 +7,7 @@ ghost use Rattle.job.specs.Code.Channels.{opened_with};
 use history::{MAX_CHANNELS, Quota};
 use verdict::Verdict;
 
-#[derive(Drop)]
+#[derive(Clone, Copy)]
 pub struct Opened {
     pub answer: Verdict,
     pub quota: Quota,

@@ -12,7 +12,7 @@ use history::{Job, Passed};
 use image::strip::PartCounts;
 
 // What the filter did: the passes that changed pixels, the pixels in all and of each part, and why it ended.
-#[derive(Drop)]
+#[derive(Clone, Copy)]
 pub(crate) struct Done {
     pub passes: usize,
     pub added: usize,

@@ -1,4 +1,6 @@
 // Trial sheets (02, T-11): noise images that anyone can make from a seed, a width and a height.
+#![tactic(auto)]
+
 mod generator;
 
 ghost use Rattle.std.specs.Prelude.{◌≡◌, ◌≤◌, length};

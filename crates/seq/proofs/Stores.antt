@@ -81,7 +81,7 @@ module _ {ℓ} {A : Type ℓ} where
       → Filled f d (sets l n (tab v m)) (n + m)
   fill_table {f} {d} {l} {n} v zero r h e = rw (add-zero n) r
   fill_table {f} {d} {l} {n} v (suc m) r h e =
-      rw (add-suc n m, ← suc-add n m) (fill_table (λ k. v (suc k)) m one (omega arith) (λ k b. e (suc k) (suc-le-suc b) ∙ ap f (omega arith)))
+      rw (add-suc n m, ← suc-add n m) (fill_table {l = set l n (v 0)} (λ k. v (suc k)) m one (omega arith) (λ k b. e (suc k) (suc-le-suc b) ∙ ap f (omega arith)))
     where
       one : Filled f d (set l n (v 0)) (suc n)
       one = rw add-one at (fill_more r (omega arith) (e 0 (omega arith) ∙ ap f (add-zero n)))

@@ -1,1 +1,2 @@
 // No code: definitions on lists and numbers, and their laws, for the crates above.
+#![tactic(auto)]

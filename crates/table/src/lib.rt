@@ -1,4 +1,6 @@
 // A filter table: the record, its check, and the table file (01, The table).
+#![tactic(auto)]
+
 pub mod mask;
 mod number;
 mod reading;
@@ -25,7 +27,7 @@ pub const MAX_FILE: usize = 3 + (MAX_ELEMENTS + MAX_RANKS) * number::MAX_GROUPS;
 // The structuring elements and the persistent elements (02's keepers), as masks of positions. `ranks` is the number of persistent elements; a rank
 // is the number of one of them, from 1. Places past the two counts are zero.
 #[repr(C)]
-#[derive(Drop)]
+#[derive(Clone, Copy)]
 pub struct Table {
     pub count: usize,
     pub elements: [u32; MAX_ELEMENTS],
@@ -34,7 +36,7 @@ pub struct Table {
 }
 
 // What reading a table file answers; the record is zero where it is refused.
-#[derive(Drop)]
+#[derive(Clone, Copy)]
 pub struct TableRead {
     pub verdict: Verdict,
     pub table: Table,

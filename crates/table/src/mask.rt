@@ -11,14 +11,14 @@ ghost use Rattle.table.specs.Mask.{position_count, centre, valid_mask, sum_insid
 ghost use Rattle.table.specs.Code.Search.{found, leaves_centre, range_number, bad_after};
 
 // What a search answers: the lowest that it looked for.
-#[derive(Drop)]
+#[derive(Clone, Copy)]
 pub(crate) enum Search {
     Found(usize),
     Nothing,
 }
 
 // Which of a table's masks: structuring elements leave the centre out, persistent elements need not.
-#[derive(Drop)]
+#[derive(Clone, Copy)]
 pub(crate) enum Kind {
     Element,
     Persistent,

@@ -6,14 +6,14 @@ ghost use Rattle.table.specs.Code.Cursor.{number_at};
 ghost use Rattle.table.specs.Number.{more, groups, group_count, number_bytes};
 
 // What reading finds: the number and the position past it, or the refusal's number, 1 or 2.
-#[derive(Drop)]
+#[derive(Clone, Copy)]
 pub enum NumberRead {
     Number(u32, usize),
     Refused(u32),
 }
 
 // The reader of seven-bit groups: the bytes, borrowed, and its position.
-#[derive(Drop)]
+#[derive(Clone, Copy)]
 pub struct Reader<'a> {
     pub src: &'a [u8],
     pub at: usize,

@@ -13,7 +13,7 @@ use crate::{MAX_ELEMENTS, MAX_RANKS, Table, TableRead, mask, number, record};
 use verdict::{Refusal, Verdict};
 
 // Masks of a file, and the position past them where they are accepted.
-#[derive(Drop)]
+#[derive(Clone, Copy)]
 struct Masks {
     verdict: Verdict,
     masks: [u32; MAX_ELEMENTS],

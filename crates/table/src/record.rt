@@ -10,7 +10,7 @@ use crate::{MAX_ELEMENTS, MAX_RANKS, Table, mask};
 use verdict::Verdict;
 
 // Which persistent element misses an element, and its position without a partner.
-#[derive(Drop)]
+#[derive(Clone, Copy)]
 enum Miss {
     At(usize, usize),
     Nowhere,

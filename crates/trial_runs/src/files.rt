@@ -4,7 +4,7 @@ use crate::grid::{Place, Size};
 use crate::{bytes, grid};
 
 // A file, and zeros after it.
-#[derive(Drop)]
+#[derive(Clone, Copy)]
 pub(crate) struct Sheet {
     pub bytes: [u8; AREA],
     pub length: usize,

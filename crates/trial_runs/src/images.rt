@@ -4,7 +4,7 @@ use crate::grid::{Place, Size};
 use crate::{bytes, generator, grid};
 
 // Three images of one size.
-#[derive(Drop)]
+#[derive(Clone, Copy)]
 pub(crate) struct Triple {
     pub one: [u8; AREA],
     pub two: [u8; AREA],

@@ -1,5 +1,7 @@
 // Trials against a second implementation (01, Trial sheets and tables): it and the library do the same jobs, and all that they leave is
 // compared. It is written from 01, shares plain data types only, and stands in passes, files and definition.
+#![tactic(auto)]
+
 mod bytes;
 mod definition;
 mod files;

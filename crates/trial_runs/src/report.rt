@@ -3,7 +3,7 @@ use crate::bytes;
 use history::Job;
 use libc::STDOUT_FILENO;
 
-#[derive(Drop)]
+#[derive(Clone, Copy)]
 pub(crate) struct Tally {
     pub pairs: usize,
     pub calls: usize,

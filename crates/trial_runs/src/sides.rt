@@ -7,7 +7,7 @@ use table::Table;
 
 // Record and areas, what the last view or collect wrote, and what the last call answered. `told` is 1 for "changed", 2 for "at rest", the length
 // of what view shows or of a file, the cover, or more than any of these in a refusal.
-#[derive(Drop)]
+#[derive(Clone, Copy)]
 pub(crate) struct Side {
     pub job: Job,
     pub first: [u8; AREA],

@@ -1,10 +1,12 @@
 // What a check or a writer answers, and 01's refusal numbers by name.
+#![tactic(auto)]
+
 ghost use Rattle.std.specs.Prelude.{◌≡◌};
 ghost use Rattle.verdict.specs.Rules;
 
 // A refusal: number and place. Of 5 and 7 also where exactly the table is bad: the witness of 5 is an earlier element, that of 7 the rank of a
 // persistent element, and the position is one of its positions. In every other refusal both are zero.
-#[derive(Drop)]
+#[derive(Clone, Copy)]
 pub struct Refusal {
     pub number: u32,
     pub place: usize,
@@ -12,14 +14,14 @@ pub struct Refusal {
     pub position: usize,
 }
 
-#[derive(Drop)]
+#[derive(Clone, Copy)]
 pub enum Verdict {
     Accepted,
     Refused(Refusal),
 }
 
 // A writer's answer: the file's length, or the refusal.
-#[derive(Drop)]
+#[derive(Clone, Copy)]
 pub enum Written {
     Length(usize),
     Refused(Refusal),

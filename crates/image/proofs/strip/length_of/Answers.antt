@@ -1,0 +1,22 @@
+-- `image::strip::length_of`: the bytes of the files of the parts passed. Assumes nothing.
+use Prim.Native.Nat.{◌-◌}
+use native.Mathlib.Omega.{arith}
+use Rattle.image.proofs.StripLoops.{part_sides, measured_none, measured_fits, measured_more, measured_all}
+use Rattle.image.proofs.strip.length_of.Goals as goal
+
+pub loop-i-init : goal.loop-i-init
+loop-i-init c = measured_none _ _
+
+pub length_of-bytes-requires : goal.length_of-bytes-requires
+length_of-bytes-requires c =
+    part_sides _ c.requires.0 c.requires.1 c.requires.2 _ c.loop-i-test.true
+
+pub overflow_add-bytes : goal.overflow_add-bytes
+overflow_add-bytes c =
+    omega (arith, measured_fits c.loop-i.invariant c.length_of-bytes.ensures c.loop-i-test.true c.requires.0 c.requires.1 c.requires.2)
+
+pub loop-i-preserved : goal.loop-i-preserved
+loop-i-preserved c = c in measured_more turn.before.loop.invariant c.length_of-bytes.ensures turn.loop-test.true
+
+pub returns : goal.returns
+returns c = measured_all c.loop-i.invariant c.loop-i-test.false

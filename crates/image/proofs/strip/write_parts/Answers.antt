@@ -1,0 +1,48 @@
+-- `image::strip::write_parts`: the files of the parts passed are written. Assumes nothing.
+use mathlib.Core.Path.{sym}
+use Prim.Native.Nat.{◌+◌, ◌-◌, ◌*◌, ◌≤◌}
+use native.Mathlib.Nat.{le_of_eq}
+use native.Mathlib.Omega.{arith}
+use lib.ListN.{length, get_or}
+use Rattle.image.proofs.RowBytes.{pixels_few}
+use Rattle.image.proofs.StripLoops.{part_sides, part_length, part_binary, put_none, put_source, put_target, put_more, put_all}
+use Rattle.image.proofs.strip.write_parts.Goals as goal
+
+pub loop-i-init : goal.loop-i-init
+loop-i-init c = put_none _ _ _ _
+
+pub overflow_mul-pixel_end : goal.overflow_mul-pixel_end
+overflow_mul-pixel_end c =
+    omega (arith, pixels_few (part_sides c.args.heights.now c.requires.0 c.requires.1 c.requires.2 c.loop-i.i c.loop-i-test.true))
+
+pub overflow_add-pixel_end : goal.overflow_add-pixel_end
+overflow_add-pixel_end c =
+    omega (arith, put_source c.loop-i.invariant c.loop-i-test.true c.requires.4)
+
+pub length_of-requires : goal.length_of-requires
+length_of-requires c =
+    part_sides _ c.requires.0 c.requires.1 c.requires.2 _ c.loop-i-test.true
+
+pub overflow_add-file_end : goal.overflow_add-file_end
+overflow_add-file_end c =
+    let room : c.loop-i.to + c.length_of.result ≤ length c.loop-i.out = put_target c.loop-i.invariant c.loop-i-test.true c.requires.5 (c.length_of.ensures _) in
+    omega (arith, room)
+
+pub put-requires : goal.put-requires
+put-requires c =
+    let room : c.loop-i.to + c.length_of.result ≤ length c.loop-i.out = put_target c.loop-i.invariant c.loop-i-test.true c.requires.5 (c.length_of.ensures _) in
+    let n = c.args.width * get_or c.args.heights.now c.loop-i.i 0 in (
+      length-of-requires c tt,
+      part_binary (c.loop-i.from + n - c.loop-i.from) c.loop-i.from c.requires.3,
+      part_length _ _ _ (part-put-end c),
+      rw (part_length _ _ _ room) (le_of_eq (sym (c.length_of.ensures _))),
+    )
+
+pub loop-i-preserved : goal.loop-i-preserved
+loop-i-preserved c =
+    let room : c.loop-i.to + c.length_of.result ≤ length c.loop-i.out = put_target c.loop-i.invariant c.loop-i-test.true c.requires.5 (c.length_of.ensures _) in
+    put_more c.loop-i.invariant c.loop-i-test.true c.length_of.ensures room c.put.ensures
+
+pub returns : goal.returns
+returns c =
+    put_all c.loop-i.invariant c.requires.5 c.loop-i-test.false

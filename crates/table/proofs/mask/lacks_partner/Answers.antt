@@ -1,0 +1,15 @@
+-- `mask::lacks_partner` meets its contract.
+-- Assumes nothing.
+use mathlib.Core.Bool.{not-not}
+use borrow.Author.Tests.{ne_eqb}
+use Rattle.seq.proofs.Bits.{bit_one, bit_none}
+use Rattle.table.proofs.Positions.{partner_and}
+use Rattle.table.proofs.mask.lacks_partner.Goals as goal
+
+pub returns-then-persistent-b-eq1 : goal.returns-then-persistent-b-eq1
+returns-then-persistent-b-eq1 c =
+    let a = c.args in
+    simp (bit_one _ _ c.if-persistent-b-eq1.true, partner_and _ _ _ _ c.requires.1 c.partners.ensures, not-not)
+
+pub returns-else-persistent-b-eq1 : goal.returns-else-persistent-b-eq1
+returns-else-persistent-b-eq1 c = simp (bit_none _ _ c.if-persistent-b-eq1.false, ne_eqb _ _ c.if-persistent-b-eq1.false)

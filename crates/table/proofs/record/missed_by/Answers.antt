@@ -1,0 +1,40 @@
+-- `record::missed_by` meets its contract: a search over the persistent elements.
+-- Assumes nothing.
+use mathlib.Core.Path.{sym, ap, ◌∙◌}
+use Prim.Native.Nat.{◌-◌}
+use native.Mathlib.Omega.{arith}
+use Rattle.seq.proofs.Search.{passed_none, passed_more, passed_found, passed_all}
+use Rattle.seq.specs.Lists.{is_some}
+use Rattle.table.specs.Code.Search.{found, nowhere, at}
+use Rattle.table.specs.Record.{missed_by}
+use Rattle.table.proofs.Places.{found_none, missed_is}
+use Rattle.table.proofs.record.missed_by.Goals as goal
+
+pub bounds-table-k : goal.bounds-table-k
+bounds-table-k c = omega (arith, c.requires.0.few)
+
+pub loop-r-init : goal.loop-r-init
+loop-r-init c = passed_none
+
+pub bounds-table-r : goal.bounds-table-r
+bounds-table-r c = omega (arith, c.requires.0.few_ranks)
+
+pub lowest_unpartnered-requires : goal.lowest_unpartnered-requires
+lowest_unpartnered-requires c =
+    let (w, l) = c.requires in
+    (w.persistent-lt _ (omega arith), w.element-lt _ l)
+
+pub returns-in-Found : goal.returns-in-Found
+unfolding missed_by
+returns-in-Found c =
+    let alone = sym c.lowest_unpartnered.ensures ∙ ap found c.in-Found.is in
+    at (sym (passed_found c.loop-r.invariant c.loop-r-test.true (missed_is _ _ ∙ ap is_some alone))) alone
+
+pub loop-r-preserved : goal.loop-r-preserved
+loop-r-preserved c =
+    passed_more c.loop-r.invariant c.loop-r-test.true
+    (missed_is _ _ ∙ found_none c.lowest_unpartnered.ensures c.in_default.is)
+
+pub returns : goal.returns
+unfolding missed_by
+returns c = nowhere (sym (passed_all c.loop-r.invariant c.loop-r-test.false))
