@@ -4,4 +4,4 @@ use Rattle.table.proofs.Positions.{partners_bit}
 use Rattle.table.proofs.mask.partners.Goals as goal
 
 pub returns : goal.returns
-returns c = partners_bit c.args.persistent c.args.b a c.requires.0 c.requires.1 l
+returns c a l = partners_bit c.args.persistent c.args.b a c.requires.0 c.requires.1 l

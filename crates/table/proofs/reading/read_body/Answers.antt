@@ -15,11 +15,10 @@ returns-then-is_bad_count c =
     (count_said _ _ c.requires.0 (sym c.read_at.ensures ∙ c.in-Number.is) (sym c.is_bad_count.ensures ∙ c.if-is_bad_count.true))
 
 pub read_counted-requires : goal.read_counted-requires
-read_counted-requires c =
-    (
-      count_read _ _ c.requires.0 (sym c.read_at.ensures ∙ c.in-Number.is) c.requires.1,
-      count_le _ (sym c.is_bad_count.ensures ∙ c.if-is_bad_count.false),
-    )
+read_counted-requires c = (
+  count_read _ _ c.requires.0 (sym c.read_at.ensures ∙ c.in-Number.is) c.requires.1,
+  count_le _ (sym c.is_bad_count.ensures ∙ c.if-is_bad_count.false),
+)
 
 pub returns-in-Refused : goal.returns-in-Refused
 returns-in-Refused c =

@@ -16,10 +16,10 @@ use Rattle.verdict.specs.Rules.{refusal, or_else, judge}
 use Rattle.table.proofs.reading.read_persistents.Goals as goal
 
 pub read_masks-got-requires : goal.read_masks-got-requires
-read_masks-got-requires c = c.requires in (omega (arith, w.few), place_le w)
+read_masks-got-requires c = let w = c.requires in (omega (arith, w.few), place_le w)
 
 pub overflow_add-place : goal.overflow_add-place
-overflow_add-place c = c.requires in omega (arith, place_le w, w.few)
+overflow_add-place c = let w = c.requires in omega (arith, place_le w, w.few)
 
 pub returns-then-next-file : goal.returns-then-next-file
 returns-then-next-file c =

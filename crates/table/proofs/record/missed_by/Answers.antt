@@ -22,7 +22,7 @@ bounds-table-r c = omega (arith, c.requires.0.few_ranks)
 pub lowest_unpartnered-requires : goal.lowest_unpartnered-requires
 lowest_unpartnered-requires c =
     let (w, l) = c.requires in
-    (w.persistent-lt _ (omega arith), w.element-lt _ l)
+    (w.persistent_lt _ (omega arith), w.element_lt _ l)
 
 pub returns-in-Found : goal.returns-in-Found
 unfolding missed_by

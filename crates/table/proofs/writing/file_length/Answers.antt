@@ -16,10 +16,9 @@ slice_bounds-elements-end c =
     omega (arith, element_places)
 
 pub slice_bounds-masks_length-end : goal.slice_bounds-masks_length-end
-slice_bounds-masks_length-end c = sym (length-take-le _ _ (array-share-prefix-elements c))
-
-pub masks_length-requires : goal.masks_length-requires
-masks_length-requires c = omega (arith, slice-aggregate-masks-length c)
+slice_bounds-masks_length-end c =
+    let element_places : length c.args.table.elements ≡ max_elements = search rules in
+    sym (length-take-le _ _ ((omega (arith, element_places))))
 
 pub slice_bounds-persistents-end : goal.slice_bounds-persistents-end
 slice_bounds-persistents-end c =
@@ -27,10 +26,9 @@ slice_bounds-persistents-end c =
     omega (arith, persistent_places)
 
 pub slice_bounds-masks_length-end-2 : goal.slice_bounds-masks_length-end-2
-slice_bounds-masks_length-end-2 c = sym (length-take-le _ _ (array-share-prefix-persistents c))
-
-pub masks_length-requires-2 : goal.masks_length-requires-2
-masks_length-requires-2 c = omega (arith, slice-aggregate-masks-length-2 c)
+slice_bounds-masks_length-end-2 c =
+    let persistent_places : length c.args.table.persistents ≡ max_ranks = search rules in
+    sym (length-take-le _ _ ((omega (arith, persistent_places))))
 
 pub overflow_add-result : goal.overflow_add-result
 overflow_add-result c =

@@ -18,7 +18,7 @@ put_number-count_at-requires c =
 
 pub put_at-elements_at-requires : goal.put_at-elements_at-requires
 put_at-elements_at-requires c =
-    let wrote-leading : Wrote c.args.out.now (to_leading c.args.table) c.put_number-count_at.result c.put_number-count_at.new.1.0 = wrote_more (wrote_none c.args.out.now) (if_several c.args.table 0) c.put_number-count_at.ensures.0 c.put_number-count_at.ensures.1 in
+    let wrote-leading : Wrote c.args.out.now (to_leading c.args.table) c.put_number-count_at.result c.put_number-count_at.new.out = wrote_more (wrote_none c.args.out.now) (if_several c.args.table 0) c.put_number-count_at.ensures.0 c.put_number-count_at.ensures.1 in
     let t = c.args.table in
     rw (← length_number t.count) (wrote_fits wrote-leading (number_bytes t.count) (fits t _ c.requires.2).1)
 
@@ -28,58 +28,56 @@ slice_bounds-elements-end c =
     omega (arith, element_places, c.requires.0)
 
 pub slice_bounds-put_masks-end : goal.slice_bounds-put_masks-end
-slice_bounds-put_masks-end c = sym (length-take-le _ _ (array-share-prefix-elements c))
+slice_bounds-put_masks-end c =
+    let element_places : length c.args.table.elements ≡ max_elements = search rules in
+    sym (length-take-le _ _ ((omega (arith, element_places, c.requires.0))))
 
 pub put_masks-ranks_at-requires : goal.put_masks-ranks_at-requires
 unfolding masks
 put_masks-ranks_at-requires c =
-    let wrote-leading : Wrote c.args.out.now (to_leading c.args.table) c.put_number-count_at.result c.put_number-count_at.new.1.0 = wrote_more (wrote_none c.args.out.now) (if_several c.args.table 0) c.put_number-count_at.ensures.0 c.put_number-count_at.ensures.1 in
-    let wrote_count : Wrote c.args.out.now (to_count c.args.table) c.put_at-elements_at.result c.put_at-elements_at.new.0 = let n = c.args.table.count in
-    wrote_more wrote-leading (number_bytes n) (c.put_at-elements_at.ensures.0 ∙ ap (λ (k : ℕ). c.put_number-count_at.result + k) (sym (length_number n))) c.put_at-elements_at.ensures.1 in
+    let wrote-leading : Wrote c.args.out.now (to_leading c.args.table) c.put_number-count_at.result c.put_number-count_at.new.out = wrote_more (wrote_none c.args.out.now) (if_several c.args.table 0) c.put_number-count_at.ensures.0 c.put_number-count_at.ensures.1 in
+    let wrote_count : Wrote c.args.out.now (to_count c.args.table) c.put_at-elements_at.result c.put_at-elements_at.new.out = (let n = c.args.table.count in
+    wrote_more wrote-leading (number_bytes n) (c.put_at-elements_at.ensures.0 ∙ ap (λ (k : ℕ). c.put_number-count_at.result + k) (sym (length_number n))) c.put_at-elements_at.ensures.1) in
     wrote_fits wrote_count (masks_bytes (masks c.args.table)) (fits c.args.table _ c.requires.2).2
 
 pub put_number-persistents_at-requires : goal.put_number-persistents_at-requires
 unfolding masks
 put_number-persistents_at-requires c =
-    let wrote-leading : Wrote c.args.out.now (to_leading c.args.table) c.put_number-count_at.result c.put_number-count_at.new.1.0 = wrote_more (wrote_none c.args.out.now) (if_several c.args.table 0) c.put_number-count_at.ensures.0 c.put_number-count_at.ensures.1 in
-    let wrote_count : Wrote c.args.out.now (to_count c.args.table) c.put_at-elements_at.result c.put_at-elements_at.new.0 = let n = c.args.table.count in
-    wrote_more wrote-leading (number_bytes n) (c.put_at-elements_at.ensures.0 ∙ ap (λ (k : ℕ). c.put_number-count_at.result + k) (sym (length_number n))) c.put_at-elements_at.ensures.1 in
-    let wrote-elements : Wrote ((c)).args.out.now (to_elements ((c)).args.table) c.put_masks-ranks_at.result c.put_masks-ranks_at.new.1.0 = wrote_more wrote_count (masks_bytes (masks ((c)).args.table)) c.put_masks-ranks_at.ensures.0 c.put_masks-ranks_at.ensures.1 in
-    let begun = (c) in
-    let t = begun.args.table in
-    wrote_fits wrote-elements (if_several t t.ranks) (fits t _ begun.pre.2).3
+    let wrote-leading : Wrote c.args.out.now (to_leading c.args.table) c.put_number-count_at.result c.put_number-count_at.new.out = wrote_more (wrote_none c.args.out.now) (if_several c.args.table 0) c.put_number-count_at.ensures.0 c.put_number-count_at.ensures.1 in
+    let wrote_count : Wrote c.args.out.now (to_count c.args.table) c.put_at-elements_at.result c.put_at-elements_at.new.out = (let n = c.args.table.count in
+    wrote_more wrote-leading (number_bytes n) (c.put_at-elements_at.ensures.0 ∙ ap (λ (k : ℕ). c.put_number-count_at.result + k) (sym (length_number n))) c.put_at-elements_at.ensures.1) in
+    let wrote-elements : Wrote c.args.out.now (to_elements c.args.table) c.put_masks-ranks_at.result c.put_masks-ranks_at.new.out = wrote_more wrote_count (masks_bytes (masks c.args.table)) c.put_masks-ranks_at.ensures.0 c.put_masks-ranks_at.ensures.1 in
+    let t = c.args.table in
+    wrote_fits wrote-elements (if_several t t.ranks) (fits t _ c.requires.2).3
 
 pub slice_bounds-persistents-end : goal.slice_bounds-persistents-end
 slice_bounds-persistents-end c =
     let persistent_places : length c.args.table.persistents ≡ max_ranks = search rules in
-    let begun = (c) in
-    omega (arith, persistent_places begun, begun.pre.1)
+    omega (arith, persistent_places, c.requires.1)
 
 pub slice_bounds-put_masks-end-2 : goal.slice_bounds-put_masks-end-2
-slice_bounds-put_masks-end-2 c = sym (length-take-le _ _ (array-share-prefix-persistents c))
+slice_bounds-put_masks-end-2 c =
+    let persistent_places : length c.args.table.persistents ≡ max_ranks = search rules in
+    sym (length-take-le _ _ ((omega (arith, persistent_places, c.requires.1))))
 
 pub put_masks-requires : goal.put_masks-requires
-unfolding persistents table_bytes
-unfolding masks
+unfolding persistents table_bytes masks
 put_masks-requires c =
-    let wrote-leading : Wrote c.args.out.now (to_leading c.args.table) c.put_number-count_at.result c.put_number-count_at.new.1.0 = wrote_more (wrote_none c.args.out.now) (if_several c.args.table 0) c.put_number-count_at.ensures.0 c.put_number-count_at.ensures.1 in
-    let wrote_count : Wrote c.args.out.now (to_count c.args.table) c.put_at-elements_at.result c.put_at-elements_at.new.0 = let n = c.args.table.count in
-    wrote_more wrote-leading (number_bytes n) (c.put_at-elements_at.ensures.0 ∙ ap (λ (k : ℕ). c.put_number-count_at.result + k) (sym (length_number n))) c.put_at-elements_at.ensures.1 in
-    let wrote-elements : Wrote ((c)).args.out.now (to_elements ((c)).args.table) c.put_masks-ranks_at.result c.put_masks-ranks_at.new.1.0 = wrote_more wrote_count (masks_bytes (masks ((c)).args.table)) c.put_masks-ranks_at.ensures.0 c.put_masks-ranks_at.ensures.1 in
-    let wrote-ranks : Wrote ((c)).args.out.now (to_ranks ((c)).args.table) c.put_number-persistents_at.result c.put_number-persistents_at.new.1.0 = let t = ((c)).args.table in
-    wrote_more wrote-elements (if_several t t.ranks) c.put_number-persistents_at.ensures.0 c.put_number-persistents_at.ensures.1 in
-    let begun = (c) in
-    wrote_fits wrote-ranks (masks_bytes (persistents begun.args.table)) begun.pre.2
+    let wrote-leading : Wrote c.args.out.now (to_leading c.args.table) c.put_number-count_at.result c.put_number-count_at.new.out = wrote_more (wrote_none c.args.out.now) (if_several c.args.table 0) c.put_number-count_at.ensures.0 c.put_number-count_at.ensures.1 in
+    let wrote_count : Wrote c.args.out.now (to_count c.args.table) c.put_at-elements_at.result c.put_at-elements_at.new.out = (let n = c.args.table.count in
+    wrote_more wrote-leading (number_bytes n) (c.put_at-elements_at.ensures.0 ∙ ap (λ (k : ℕ). c.put_number-count_at.result + k) (sym (length_number n))) c.put_at-elements_at.ensures.1) in
+    let wrote-elements : Wrote c.args.out.now (to_elements c.args.table) c.put_masks-ranks_at.result c.put_masks-ranks_at.new.out = wrote_more wrote_count (masks_bytes (masks c.args.table)) c.put_masks-ranks_at.ensures.0 c.put_masks-ranks_at.ensures.1 in
+    let wrote-ranks : Wrote c.args.out.now (to_ranks c.args.table) c.put_number-persistents_at.result c.put_number-persistents_at.new.out = (let t = c.args.table in
+    wrote_more wrote-elements (if_several t t.ranks) c.put_number-persistents_at.ensures.0 c.put_number-persistents_at.ensures.1) in
+    wrote_fits wrote-ranks (masks_bytes (persistents c.args.table)) c.requires.2
 
 pub returns : goal.returns
-unfolding persistents table_bytes
-unfolding masks
+unfolding persistents table_bytes masks
 returns c =
-    let wrote-leading : Wrote c.args.out.now (to_leading c.args.table) c.put_number-count_at.result c.put_number-count_at.new.1.0 = wrote_more (wrote_none c.args.out.now) (if_several c.args.table 0) c.put_number-count_at.ensures.0 c.put_number-count_at.ensures.1 in
-    let wrote_count : Wrote c.args.out.now (to_count c.args.table) c.put_at-elements_at.result c.put_at-elements_at.new.0 = let n = c.args.table.count in
-    wrote_more wrote-leading (number_bytes n) (c.put_at-elements_at.ensures.0 ∙ ap (λ (k : ℕ). c.put_number-count_at.result + k) (sym (length_number n))) c.put_at-elements_at.ensures.1 in
-    let wrote-elements : Wrote ((c)).args.out.now (to_elements ((c)).args.table) c.put_masks-ranks_at.result c.put_masks-ranks_at.new.1.0 = wrote_more wrote_count (masks_bytes (masks ((c)).args.table)) c.put_masks-ranks_at.ensures.0 c.put_masks-ranks_at.ensures.1 in
-    let wrote-ranks : Wrote ((c)).args.out.now (to_ranks ((c)).args.table) c.put_number-persistents_at.result c.put_number-persistents_at.new.1.0 = let t = ((c)).args.table in
-    wrote_more wrote-elements (if_several t t.ranks) c.put_number-persistents_at.ensures.0 c.put_number-persistents_at.ensures.1 in
-    let begun = (c) in
-    wrote_all (wrote_more wrote-ranks (masks_bytes (persistents begun.args.table)) c.put_masks.ensures.0 c.put_masks.ensures.1) begun.pre.2
+    let wrote-leading : Wrote c.args.out.now (to_leading c.args.table) c.put_number-count_at.result c.put_number-count_at.new.out = wrote_more (wrote_none c.args.out.now) (if_several c.args.table 0) c.put_number-count_at.ensures.0 c.put_number-count_at.ensures.1 in
+    let wrote_count : Wrote c.args.out.now (to_count c.args.table) c.put_at-elements_at.result c.put_at-elements_at.new.out = (let n = c.args.table.count in
+    wrote_more wrote-leading (number_bytes n) (c.put_at-elements_at.ensures.0 ∙ ap (λ (k : ℕ). c.put_number-count_at.result + k) (sym (length_number n))) c.put_at-elements_at.ensures.1) in
+    let wrote-elements : Wrote c.args.out.now (to_elements c.args.table) c.put_masks-ranks_at.result c.put_masks-ranks_at.new.out = wrote_more wrote_count (masks_bytes (masks c.args.table)) c.put_masks-ranks_at.ensures.0 c.put_masks-ranks_at.ensures.1 in
+    let wrote-ranks : Wrote c.args.out.now (to_ranks c.args.table) c.put_number-persistents_at.result c.put_number-persistents_at.new.out = (let t = c.args.table in
+    wrote_more wrote-elements (if_several t t.ranks) c.put_number-persistents_at.ensures.0 c.put_number-persistents_at.ensures.1) in
+    wrote_all (wrote_more wrote-ranks (masks_bytes (persistents c.args.table)) c.put_masks.ensures.0 c.put_masks.ensures.1) c.requires.2

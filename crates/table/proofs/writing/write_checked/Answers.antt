@@ -9,7 +9,7 @@ use Rattle.verdict.specs.declared.Written.TheVariants.{Length}
 use Rattle.table.proofs.writing.write_checked.Goals as goal
 
 pub file_length-length-requires : goal.file_length-length-requires
-file_length-length-requires c = accepted_table _ c.requires in (w.count_most, w.ranks-most)
+file_length-length-requires c = let w = accepted_table _ c.requires in (w.count_most, w.ranks_most)
 
 pub refusal_of-requires : goal.refusal_of-requires
 refusal_of-requires c = tt
@@ -18,7 +18,7 @@ pub returns-then-out-length : goal.returns-then-out-length
 returns-then-out-length c = rw c.refusal_of.ensures (short_output _ _ c.requires (omega arith))
 
 pub put_table-requires : goal.put_table-requires
-put_table-requires c = accepted_table _ c.requires in (w.count_most, w.ranks-most, omega arith)
+put_table-requires c = let w = accepted_table _ c.requires in (w.count_most, w.ranks_most, omega arith)
 
 pub returns : goal.returns
 returns c =
