@@ -13,7 +13,7 @@ returns-then-is_bad c = c.refused.ensures ∙ sym (pixels_size _ _ _ (sym c.is_b
 pub check_bytes-requires : goal.check_bytes-requires
 check_bytes-requires c =
     let good-size : bad_size c.args.width c.args.height ≡ false = sym c.is_bad.ensures ∙ c.if-is_bad.false in
-    sides _ _ good-size in (s.wide, s.narrow, omega (arith, s.short))
+    let s = sides c.args.width c.args.height good-size in (s.wide, s.narrow, omega (arith, s.short))
 
 pub returns : goal.returns
 returns c =

@@ -13,6 +13,12 @@ slice_bounds-fill-count c =
     let layout-read : layout_of bytes ≡ Image c.in-Image.width c.in-Image.height c.in-Image.start = sym c.read-found.ensures ∙ c.in-Image.is in
     read_start bytes layout-read
 
+pub slice_bounds-fill-start : goal.slice_bounds-fill-start
+slice_bounds-fill-start c =
+    let bytes : List ℕ = c.args.file.now in
+    let layout-read : layout_of bytes ≡ Image c.in-Image.width c.in-Image.height c.in-Image.start = sym c.read-found.ensures ∙ c.in-Image.is in
+    read_start bytes layout-read
+
 pub fill-requires : goal.fill-requires
 fill-requires c =
     let bytes : List ℕ = c.args.file.now in

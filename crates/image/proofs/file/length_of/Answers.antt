@@ -18,5 +18,5 @@ overflow_add-result c =
     omega (arith, raster_few c.requires c.row_bytes.ensures, c.length_of.ensures, header_length w h, decimal_short w, decimal_short h)
 
 pub returns : goal.returns
-returns c =
+returns c px =
     omega (arith, c.length_of.ensures, ap (λ (b : ℕ). b * c.args.height) c.row_bytes.ensures, bytes_length c.args.width c.args.height px)

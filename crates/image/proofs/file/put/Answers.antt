@@ -10,7 +10,7 @@ write-requires c =
 pub image-requires : goal.image-requires
 image-requires c =
     let long = bytes_length c.args.width c.args.height c.args.pixels.now in
-    (c.requires.0, c.requires.1, c.requires.2, omega (arith, long, c.requires.3, c.length_of.ensures, c.write.auto.1.1.0))
+    (c.requires.0, c.requires.1, c.requires.2, omega (arith, long, c.requires.3, c.length_of.ensures, c.write.auto.out))
 
 pub returns : goal.returns
 returns c =

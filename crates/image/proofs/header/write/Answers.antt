@@ -30,31 +30,31 @@ write-middle-requires c =
 pub bounds-out-middle : goal.bounds-out-middle
 bounds-out-middle c =
     let room : 3 + length (decimal c.args.width) + 1 + length (decimal c.args.height) + 1 ≤ length c.args.out.now = omega (arith, header_length c.args.width c.args.height) in
-    let kept : length c.write-middle.new.1.0 ≡ length c.args.out.now = c.write-middle.auto.1.0 ∙ simp length-set in
-    c in omega (arith, room w.before.before.before, kept w, w.write.ensures.0)
+    let kept : length c.write-middle.new.out ≡ length c.args.out.now = c.write-middle.auto.out ∙ simp length-set in
+    omega (arith, room, kept, c.write-middle.ensures.0)
 
 pub overflow_add-middle : goal.overflow_add-middle
 overflow_add-middle c =
     let room : 3 + length (decimal c.args.width) + 1 + length (decimal c.args.height) + 1 ≤ length c.args.out.now = omega (arith, header_length c.args.width c.args.height) in
-    c in omega (arith, room w.before.before.before, w.write.ensures.0)
+    omega (arith, room, c.write-middle.ensures.0)
 
 pub write-end-requires : goal.write-end-requires
 write-end-requires c =
     let room : 3 + length (decimal c.args.width) + 1 + length (decimal c.args.height) + 1 ≤ length c.args.out.now = omega (arith, header_length c.args.width c.args.height) in
-    let kept : length c.write-middle.new.1.0 ≡ length c.args.out.now = c.write-middle.auto.1.0 ∙ simp length-set in
+    let kept : length c.write-middle.new.out ≡ length c.args.out.now = c.write-middle.auto.out ∙ simp length-set in
     simp length-set (omega (arith, room, kept, c.write-middle.ensures.0))
 
 pub bounds-out-end : goal.bounds-out-end
 bounds-out-end c =
     let room : 3 + length (decimal c.args.width) + 1 + length (decimal c.args.height) + 1 ≤ length c.args.out.now = omega (arith, header_length c.args.width c.args.height) in
-    let kept : length c.write-middle.new.1.0 ≡ length c.args.out.now = c.write-middle.auto.1.0 ∙ simp length-set in
-    let kept-2 : length c.write-end.new.1.0 ≡ length c.args.out.now = c.write-end.auto.1.0 ∙ simp length-set kept in
+    let kept : length c.write-middle.new.out ≡ length c.args.out.now = c.write-middle.auto.out ∙ simp length-set in
+    let kept-2 : length c.write-end.new.out ≡ length c.args.out.now = c.write-end.auto.out ∙ simp length-set kept in
     omega (arith, room, kept-2, c.write-middle.ensures.0, c.write-end.ensures.0)
 
 pub shape_of-out : goal.shape_of-out
 shape_of-out c =
-    let kept : length c.write-middle.new.1.0 ≡ length c.args.out.now = c.write-middle.auto.1.0 ∙ simp length-set in
-    let kept-2 : length c.write-end.new.1.0 ≡ length c.args.out.now = c.write-end.auto.1.0 ∙ simp length-set kept in
+    let kept : length c.write-middle.new.out ≡ length c.args.out.now = c.write-middle.auto.out ∙ simp length-set in
+    let kept-2 : length c.write-end.new.out ≡ length c.args.out.now = c.write-end.auto.out ∙ simp length-set kept in
     simp length-set kept-2
 
 pub returns : goal.returns

@@ -1,5 +1,4 @@
 -- `image::majority::combine`: after i turns the first i bytes are those of the majority. Assumes nothing.
-use Prim.Native.Nat.{◌-◌}
 use native.Mathlib.Nat.{le_antisymm}
 use native.Mathlib.Omega.{arith}
 use borrow.Author.Rules.{rules}
@@ -16,7 +15,7 @@ bounds-out-i c =
 
 pub loop-i-preserved : goal.loop-i-preserved
 loop-i-preserved c =
-    (search rules, fill_more c.loop-i.invariant.1 (omega (arith, slice-write-out c, fill_length c.loop-i.invariant.1)) c.majority.ensures)
+    (search rules, fill_more c.loop-i.invariant.1 (omega (arith, fill_length c.loop-i.invariant.1)) c.majority.ensures)
 
 pub shape_of-out : goal.shape_of-out
 shape_of-out c = fill_length c.loop-i.invariant.1

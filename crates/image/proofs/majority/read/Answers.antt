@@ -1,9 +1,13 @@
 -- `image::majority::read` meets its contract. Assumes nothing.
 use mathlib.Core.Path.{◌≡◌, refl, sym, ◌∙◌}
 use native.Mathlib.Omega.{arith}
+use borrow.Author.Rules.{rules}
+use lib.ListN.{length}
 use lib.Seq.{length-take-le}
+use Prim.Native.Nat.{◌*◌, ◌≤◌}
 use Rattle.image.specs.declared.ImageRead.TheVariants.{Size}
 use Rattle.image.specs.Code.Three.{size_of_three}
+use Rattle.image.specs.Size.{max_raster}
 use Rattle.image.proofs.RowBytes.{raster_few}
 use Rattle.image.proofs.ThreeFiles.{three_sides, first_ends, second_ends, third_ends, three_counted, three_read, three_refused}
 use Rattle.image.proofs.majority.read.Goals as goal
@@ -29,10 +33,19 @@ combined-raster-requires c =
     ((first_ends _ _ _ found).long, (second_ends _ _ _ found).long, (third_ends _ _ _ found).long, raster_few (three_sides _ _ _ found) refl)
 
 pub slice_bounds-raster-end : goal.slice_bounds-raster-end
-slice_bounds-raster-end c = omega (arith, combined-requires c c.combined-raster.lifetimes)
+slice_bounds-raster-end c =
+    let Sized : Type 0 = size_of_three c.args.one.now c.args.two.now c.args.three.now ≡ Size c.in-Size.width c.in-Size.height in
+    let size-found : Sized = sym c.judge-judged.ensures ∙ c.in-Size.is in
+    let places : length c.combined-raster.result ≡ max_raster = search rules in
+    omega (arith, raster_few (three_sides _ _ _ size-found) c.row_bytes.ensures, places)
 
 pub slice_bounds-fill-end : goal.slice_bounds-fill-end
-slice_bounds-fill-end c = sym (length-take-le _ _ (array-share-prefix-raster c))
+slice_bounds-fill-end c =
+    let Sized : Type 0 = size_of_three c.args.one.now c.args.two.now c.args.three.now ≡ Size c.in-Size.width c.in-Size.height in
+    let size-found : Sized = sym c.judge-judged.ensures ∙ c.in-Size.is in
+    let places : length c.combined-raster.result ≡ max_raster = search rules in
+    let inside : c.row_bytes.result * c.in-Size.height ≤ length c.combined-raster.result = omega (arith, raster_few (three_sides _ _ _ size-found) c.row_bytes.ensures, places) in
+    sym (length-take-le _ _ inside)
 
 pub fill-requires : goal.fill-requires
 fill-requires c =

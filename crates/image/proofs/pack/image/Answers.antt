@@ -1,5 +1,4 @@
 -- `image::pack::image` meets its contract. Assumes nothing.
-use Prim.Native.Nat.{◌-◌}
 use native.Mathlib.Omega.{arith}
 use Rattle.image.proofs.PackedRows.{rows_none, rows_fit, rows_more, rows_all}
 use Rattle.seq.proofs.Stores.{stored_length}

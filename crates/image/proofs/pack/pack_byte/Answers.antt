@@ -1,7 +1,5 @@
 -- `image::pack::pack_byte` meets its contract. Assumes nothing.
-use Prim.Native.Nat.{◌-◌}
 use native.Mathlib.Omega.{arith}
-use Rattle.image.specs.Code.Rows.{pixel_in}
 use Rattle.image.proofs.Packed.{packing_none, packing_more, packing_all, packing_small, pixel_small}
 use Rattle.image.proofs.pack.pack_byte.Goals as goal
 

@@ -1,5 +1,4 @@
 -- `image::pack::pack_row` meets its contract. Assumes nothing.
-use Prim.Native.Nat.{◌-◌}
 use native.Mathlib.Omega.{arith}
 use lib.ListN.{length-set}
 use Rattle.image.proofs.Packed.{pack_none, pack_within, pack_more, pack_rest, pack_all}

@@ -1,6 +1,5 @@
 -- `image::pixels::check_values` meets its contract. Assumes nothing.
 use mathlib.Core.Path.{◌∙◌}
-use Prim.Native.Nat.{◌-◌}
 use native.Mathlib.Omega.{arith}
 use Rattle.image.proofs.Values.{clean_none, clean_fits, clean_more, clean_found, clean_all}
 use Rattle.image.proofs.pixels.check_values.Goals as goal

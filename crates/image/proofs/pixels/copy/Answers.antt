@@ -1,6 +1,5 @@
 -- `image::pixels::copy`: after i turns the first i bytes are those of the pixels. Assumes nothing.
 use mathlib.Core.Path.{refl}
-use Prim.Native.Nat.{◌-◌}
 use native.Mathlib.Nat.{le_antisymm}
 use native.Mathlib.Omega.{arith}
 use borrow.Author.Rules.{rules}
@@ -17,7 +16,7 @@ bounds-area-i c = omega (arith, fill_length c.loop-i.invariant.1)
 pub loop-i-preserved : goal.loop-i-preserved
 loop-i-preserved c =
     let l = c.loop-i.invariant.1 in
-    (search rules, fill_more l (omega (arith, slice-write-area c, fill_length l)) refl)
+    (search rules, fill_more l (omega (arith, fill_length l)) refl)
 
 pub shape_of-area : goal.shape_of-area
 shape_of-area c = fill_length c.loop-i.invariant.1

@@ -1,5 +1,6 @@
 -- `image::strip::check` meets its contract. Assumes nothing.
 use mathlib.Core.Path.{◌≡◌, sym, ◌∙◌}
+use Prim.Native.Nat.{◌≤◌}
 use native.Mathlib.Omega.{arith}
 use borrow.Author.Rules.{rules}
 use lib.ListN.{length}
@@ -22,7 +23,12 @@ slice_bounds-heights-end c =
     omega (arith, shape.few, height-places)
 
 pub slice_bounds-sum-end : goal.slice_bounds-sum-end
-slice_bounds-sum-end c = sym (length-take-le _ _ (array-share-prefix-heights c))
+slice_bounds-sum-end c =
+    let height-places : length c.args.strip.heights ≡ max_parts = search rules in
+    let accepted : shape_verdict c.args.strip ≡ Accepted = sym c.check_shape.ensures ∙ c.in_default.is in
+    let shape : Shape c.args.strip = shape_good _ accepted in
+    let within : c.args.strip.parts ≤ length c.args.strip.heights = omega (arith, shape.few, height-places) in
+    sym (length-take-le _ _ within)
 
 pub sum-requires : goal.sum-requires
 sum-requires c =

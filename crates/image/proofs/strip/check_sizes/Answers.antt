@@ -1,6 +1,5 @@
 -- `image::strip::check_sizes`: no part passed has a bad size. Assumes nothing.
 use mathlib.Core.Path.{sym, ◌∙◌}
-use Prim.Native.Nat.{◌-◌}
 use Rattle.seq.proofs.Search.{passed_none, passed_more}
 use Rattle.verdict.proofs.Rules.{search_found, search_none}
 use Rattle.image.proofs.strip.check_sizes.Goals as goal

@@ -1,7 +1,6 @@
 -- `image::strip::check_widths`: every part passed has the first part's width. Assumes nothing.
 use mathlib.Core.Bool.{not}
 use mathlib.Core.Path.{ap, ◌∙◌}
-use Prim.Native.Nat.{◌-◌}
 use borrow.Author.Tests.{eq-eqb, ne_eqb}
 use Rattle.seq.proofs.Search.{passed_none, passed_more}
 use Rattle.verdict.proofs.Rules.{search_found, search_none}

@@ -1,5 +1,4 @@
 -- `image::strip::length_of`: the bytes of the files of the parts passed. Assumes nothing.
-use Prim.Native.Nat.{◌-◌}
 use native.Mathlib.Omega.{arith}
 use Rattle.image.proofs.StripLoops.{part_sides, measured_none, measured_fits, measured_more, measured_all}
 use Rattle.image.proofs.strip.length_of.Goals as goal
@@ -16,7 +15,7 @@ overflow_add-bytes c =
     omega (arith, measured_fits c.loop-i.invariant c.length_of-bytes.ensures c.loop-i-test.true c.requires.0 c.requires.1 c.requires.2)
 
 pub loop-i-preserved : goal.loop-i-preserved
-loop-i-preserved c = c in measured_more turn.before.loop.invariant c.length_of-bytes.ensures turn.loop-test.true
+loop-i-preserved c = measured_more c.loop-i.invariant c.length_of-bytes.ensures c.loop-i-test.true
 
 pub returns : goal.returns
 returns c = measured_all c.loop-i.invariant c.loop-i-test.false

@@ -1,5 +1,6 @@
 -- `image::strip::whole` meets its contract: an accepted shape has as many heights as parts. Assumes nothing.
 use mathlib.Core.Path.{◌≡◌, sym}
+use Prim.Native.Nat.{◌≤◌}
 use native.Mathlib.Omega.{arith}
 use borrow.Author.Rules.{rules}
 use lib.ListN.{length}
@@ -15,7 +16,10 @@ slice_bounds-heights-end c =
     omega (arith, (shape_good _ c.requires).few, height-places)
 
 pub slice_bounds-sum-end : goal.slice_bounds-sum-end
-slice_bounds-sum-end c = sym (length-take-le _ _ (array-share-prefix-heights c))
+slice_bounds-sum-end c =
+    let height-places : length c.args.strip.heights ≡ max_parts = search rules in
+    let within : c.args.strip.parts ≤ length c.args.strip.heights = omega (arith, (shape_good _ c.requires).few, height-places) in
+    sym (length-take-le _ _ within)
 
 pub sum-requires : goal.sum-requires
 sum-requires c = heights_good (shape_good _ c.requires)

@@ -1,5 +1,6 @@
 -- `image::strip::write` meets its contract. Assumes nothing.
 use mathlib.Core.Path.{◌≡◌, sym, ◌∙◌}
+use Prim.Native.Nat.{◌≤◌}
 use native.Mathlib.Omega.{arith}
 use borrow.Author.Rules.{rules}
 use lib.ListN.{length}
@@ -24,7 +25,13 @@ slice_bounds-heights-end c =
     omega (arith, shape.few, height-places)
 
 pub slice_bounds-length_of-end : goal.slice_bounds-length_of-end
-slice_bounds-length_of-end c = sym (length-take-le _ _ (array-share-prefix-heights c))
+slice_bounds-length_of-end c =
+    let height-places : length c.args.strip.heights ≡ max_parts = search rules in
+    let accepted : strip_verdict c.args.strip c.args.pixels.now ≡ Accepted = sym c.check.ensures ∙ c.in_default.is in
+    let good : StripGood c.args.strip c.args.pixels.now = strip_good _ _ accepted in
+    let shape : Shape c.args.strip = good.shape in
+    let within : c.args.strip.parts ≤ length c.args.strip.heights = omega (arith, shape.few, height-places) in
+    sym (length-take-le _ _ within)
 
 pub length_of-end-requires : goal.length_of-end-requires
 length_of-end-requires c =
@@ -41,10 +48,21 @@ returns-then-out-end c =
     rw c.refusal_of.ensures (write_short _ _ accepted _ (c.length_of-end.ensures _) c.if-out-end.true)
 
 pub slice_bounds-heights-end-2 : goal.slice_bounds-heights-end-2
-slice_bounds-heights-end-2 c = array-share-prefix-heights c
+slice_bounds-heights-end-2 c =
+    let height-places : length c.args.strip.heights ≡ max_parts = search rules in
+    let accepted : strip_verdict c.args.strip c.args.pixels.now ≡ Accepted = sym c.check.ensures ∙ c.in_default.is in
+    let good : StripGood c.args.strip c.args.pixels.now = strip_good _ _ accepted in
+    let shape : Shape c.args.strip = good.shape in
+    omega (arith, shape.few, height-places)
 
 pub slice_bounds-write_parts-end : goal.slice_bounds-write_parts-end
-slice_bounds-write_parts-end c = sym (length-take-le _ _ (array-share-prefix-heights-2 c))
+slice_bounds-write_parts-end c =
+    let height-places : length c.args.strip.heights ≡ max_parts = search rules in
+    let accepted : strip_verdict c.args.strip c.args.pixels.now ≡ Accepted = sym c.check.ensures ∙ c.in_default.is in
+    let good : StripGood c.args.strip c.args.pixels.now = strip_good _ _ accepted in
+    let shape : Shape c.args.strip = good.shape in
+    let within : c.args.strip.parts ≤ length c.args.strip.heights = omega (arith, shape.few, height-places) in
+    sym (length-take-le _ _ within)
 
 pub write_parts-requires : goal.write_parts-requires
 write_parts-requires c =

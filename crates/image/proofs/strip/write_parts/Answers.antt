@@ -28,13 +28,16 @@ overflow_add-file_end c =
     let room : c.loop-i.to + c.length_of.result ≤ length c.loop-i.out = put_target c.loop-i.invariant c.loop-i-test.true c.requires.5 (c.length_of.ensures _) in
     omega (arith, room)
 
+pub slice_bounds-put-end : goal.slice_bounds-put-end
+slice_bounds-put-end c = put_source c.loop-i.invariant c.loop-i-test.true c.requires.4
+
 pub put-requires : goal.put-requires
 put-requires c =
     let room : c.loop-i.to + c.length_of.result ≤ length c.loop-i.out = put_target c.loop-i.invariant c.loop-i-test.true c.requires.5 (c.length_of.ensures _) in
     let n = c.args.width * get_or c.args.heights.now c.loop-i.i 0 in (
-      length-of-requires c tt,
+      part_sides _ c.requires.0 c.requires.1 c.requires.2 _ c.loop-i-test.true,
       part_binary (c.loop-i.from + n - c.loop-i.from) c.loop-i.from c.requires.3,
-      part_length _ _ _ (part-put-end c),
+      part_length _ _ _ (put_source c.loop-i.invariant c.loop-i-test.true c.requires.4),
       rw (part_length _ _ _ room) (le_of_eq (sym (c.length_of.ensures _))),
     )
 

@@ -1,5 +1,4 @@
 -- `image::unpack::image` meets its contract. Assumes nothing.
-use Prim.Native.Nat.{◌-◌}
 use native.Mathlib.Omega.{arith}
 use Rattle.image.proofs.Unpacked.{image_none, image_fits, image_more, image_all}
 use Rattle.seq.proofs.Tab.{fill_length}

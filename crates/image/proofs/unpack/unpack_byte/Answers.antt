@@ -1,6 +1,5 @@
 -- `image::unpack::unpack_byte` meets its contract. The loop's invariant: the pixels passed are stored. Assumes nothing.
 use mathlib.Core.Path.{refl}
-use Prim.Native.Nat.{◌-◌}
 use native.Mathlib.Omega.{arith}
 use borrow.Author.Rules.{rules}
 use Rattle.seq.proofs.Stores.{stored_none, stored_more, stored_all, stored_length}

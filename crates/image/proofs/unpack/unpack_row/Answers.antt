@@ -1,6 +1,5 @@
 -- `image::unpack::unpack_row` meets its contract. Assumes nothing.
 use mathlib.Core.Path.{◌∙◌}
-use Prim.Native.Nat.{◌-◌}
 use native.Mathlib.Omega.{arith}
 use Rattle.image.proofs.Unpacked.{row_none, row_byte_lem, row_more, row_rest, row_all}
 use Rattle.seq.proofs.Stores.{stored_length}
@@ -29,7 +28,7 @@ pub unpack_byte-requires-then-col-width : goal.unpack_byte-requires-then-col-wid
 unpack_byte-requires-then-col-width c = omega (arith, stored_length c.loop-col.invariant.pixels)
 
 pub shape_of-area-then-col-width : goal.shape_of-area-then-col-width
-shape_of-area-then-col-width c = c.unpack_byte-then-col-width.auto.1.1.0 ∙ stored_length c.loop-col.invariant.pixels
+shape_of-area-then-col-width c = c.unpack_byte-then-col-width.auto.area ∙ stored_length c.loop-col.invariant.pixels
 
 pub returns-then-col-width : goal.returns-then-col-width
 returns-then-col-width c =
