@@ -115,9 +115,9 @@ module _ (w h : ℕ) (img : List ℕ) (is : IsImage w h img) (r c : ℕ) (hr : r
       (λ n i. ap (λ (x : ℕ). eqb x v) (site_at_lem n (position_lt e i) (all_elim inner (all_elim (λ e. all inner (positions e)) all_inner m) i))))
       ∙ ap (any (λ e. all (λ n. eqb (site n) v) (positions e))) (sym masks_median)
 
-  plain_at : five_or_more (pattern win) ≡ plain_at median_table w h img r c
+  plain_at_lem : five_or_more (pattern win) ≡ plain_at median_table w h img r c
   unfolding plain_at
-  plain_at =
+  plain_at_lem =
       eqb-true (five_or_more (pattern win)) (plain_of (pattern win))
       (all_elim (λ p. eqb (five_or_more p) (plain_of p)) all_plain (up_to_intro (pattern_lt w h img r c is.binary)))
       ∙ ap (λ (v : ℕ). cond (opposes (pattern win) (1 - v)) (1 - v) v) centre_at
@@ -125,4 +125,4 @@ module _ (w h : ℕ) (img : List ℕ) (is : IsImage w h img) (r c : ℕ) (hr : r
 
 pub preview_plain : Preview
 unfolding preview plain
-preview_plain w h img is = grid_ext w h (λ r c. five_or_more (pattern (window w h img r c))) (plain_at median_table w h img) (plain_at w h img is)
+preview_plain w h img is = grid_ext w h (λ r c. five_or_more (pattern (window w h img r c))) (plain_at median_table w h img) (plain_at_lem w h img is)
