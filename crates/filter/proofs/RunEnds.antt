@@ -5,16 +5,14 @@
 --     Goes, goes_by              what the way says of the budget
 --     Looping ..                 where the loop stands after n passes that added x and removed y
 --     running_none               before the first pass
---     onward_within, went, not_onward     one pass of the loop
+--     onward_within, went     one pass of the loop
 --     ends_stable, ends_full, ends_limit     what it answers and leaves at each of its ends
 -- Assumes nothing.
 use mathlib.Core.Bool.{Bool, true, false, cond, not, ◌||◌}
 use mathlib.Core.List.{List}
-use mathlib.Core.Logic.{◌⊎◌, ⊎_elim}
 use mathlib.Core.Path.{◌≡◌, refl, sym, ap, ap₂, ◌∙◌, subst}
 use Prim.Native.Nat.{ℕ, ◌+◌, ◌-◌, ◌*◌, ◌%◌, ◌≤◌, ◌<◌}
 use native.Mathlib.Omega.{arith}
-use denote.Enum.Declared.{tag_of, declared}
 use borrow.Author.Tests.{eq-eqb, ne_eqb, eqb-true, eqb-false, lt-ltb, le-ltb, ltb-false}
 use lib.Dec.{ltb, eqb}
 use lib.ListN.{length, get_or, take}
@@ -30,7 +28,6 @@ use Rattle.filter.specs.Code.Rows.{nearby, Spread}
 use Rattle.filter.specs.Code.Run.{holding, trail_of, Running, EndedAs, Put, way_of, Acted, Went, ended}
 use Rattle.filter.specs.Repeated.{Trail, begin, shown, next, onward, stops, rested, follow, first_area, second_area}
 use Rattle.filter.proofs.FilteredLaws.{shown_over, all_fresh, still_all}
-use Rattle.filter.specs.contracts.run.Way.{enum}
 use Rattle.filter.proofs.RunLaws.{next_image_lem, next_packed, next_counts, fresh_same, fresh_joined, stops_test, rests, overflows, onward_running, limited}
 use Rattle.image.specs.Size.{max_side}
 use Rattle.operator.specs.Image.{IsImage}
@@ -165,12 +162,6 @@ onward_within b n u k g o = by (way_of b n u k) (goes_by b n u k) (sym g ∙ o)
     by v (rest z) i = let x : ◌≡◌ {A = ℕ} 0 1 = cc in absurd (omega arith)
     by v (full a d) i = let x : ◌≡◌ {A = ℕ} 0 1 = cc in absurd (omega arith)
     by v (more a d) i = ltb-false b.room (u + k) (or_none_right (ltb b.most (n + 1)) (ltb b.room (u + k)) d)
-
--- a way of another kind
-pub not_onward : (v : Way) → (tag_of (declared enum) v ≡ 1) ⊎ (tag_of (declared enum) v ≡ 2) → v ≡ way.Onward → ⊥
-not_onward way.Onward k e = ⊎_elim (λ t. omega arith) (λ t. omega arith) k
-not_onward way.Rests k e = let x : ◌≡◌ {A = ℕ} 0 1 = cc in omega arith
-not_onward way.Full k e = let x : ◌≡◌ {A = ℕ} 0 1 = cc in omega arith
 
 -- one pass of the loop: what was written is what the way asks for
 module _ {t : Table} {w h : ℕ} {b : Budget} {c₀ : Trail} {es ms plane dirty stale plane' dirty' stale' e : List ℕ} (first second : List ℕ) {f s : List ℕ} {n x y p q : ℕ}

@@ -1,0 +1,12 @@
+-- `sweep::all4` meets its contract. The invariant: the first k bytes are written.
+-- Assumes nothing.
+use Prim.Native.Nat.{◌≤◌, ◌-◌}
+use Rattle.seq.specs.Loops.{Swept}
+use Rattle.filter.specs.Code.Sweep.{all_of4}
+use Rattle.filter.proofs.sweep.all4.Given as goal
+
+abbrev pub invariant-loop-k : goal.invariant-loop-k
+invariant-loop-k l = Swept (all_of4 l.source l.a l.b l.c l.d) l.initial.out l.out 0 l.k × (l.k ≤ l.count)
+
+abbrev pub decreases-loop-k : goal.decreases-loop-k
+decreases-loop-k l = l.count - l.k
