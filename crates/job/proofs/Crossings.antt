@@ -12,7 +12,7 @@
 use mathlib.Core.Bool.{Bool, true, false, cond}
 use mathlib.Core.List.{List}
 use mathlib.Core.Path.{◌≡◌, refl, sym, ap, ap₂, ◌∙◌}
-use Prim.Native.Nat.{ℕ, ◌+◌, ◌-◌, ◌*◌, ◌≤◌, ◌<◌, ◌%◌}
+use Prim.Native.Nat.{ℕ, ◌+◌, ◌*◌, ◌≤◌, ◌<◌, ◌%◌}
 use native.Mathlib.Nat.{add-zero}
 use native.Mathlib.Omega.{arith}
 use borrow.Author.Tests.{ltb-true, ltb-false, lt-ltb, le-ltb, eq-eqb, ne_eqb}
@@ -32,7 +32,7 @@ use Rattle.image.specs.declared.strip.Strip.{Strip}
 use Rattle.image.specs.Strip.{max_parts, max_strip, heights_of, strip_width, strip_height, no_counts}
 use Rattle.image.proofs.Shapes.{padded_whole, padded_tab, shape_count}
 use Rattle.job.specs.Code.Passes.{after, concluded, Fit, room_of, passes_of, done_on, Made}
-use Rattle.job.specs.Core.{at, stepped}
+use Rattle.job.specs.Core.{stepped}
 use Rattle.job.specs.declared.Stepped.{Stepped}
 use Rattle.job.specs.declared.step.Done.{Done}
 use Rattle.job.proofs.Counts.{ltb_sub}

@@ -1,20 +1,15 @@
 -- A loop that makes one pass after the other: what is left to make from where it stands is what was to make from its start.
 --     Going n s₀ k s                    after k of at most n passes from s₀ it stands at s
 --     going_none, more, ends, all       the loop's start, one changing pass, a pass that ends it, and its last turn
---     not_changed                       an answer of another kind than "changed"
 -- Assumes nothing.
 use mathlib.Core.List.{List}
-use mathlib.Core.Logic.{◌⊎◌, ⊎_elim}
 use mathlib.Core.Path.{◌≡◌, refl, sym, ap, ◌∙◌}
 use Prim.Native.Nat.{ℕ, suc, ◌+◌, ◌-◌, ◌≤◌, ◌<◌}
 use native.Mathlib.Omega.{arith}
-use denote.Enum.Declared.{tag_of, declared}
-use Rattle.history.specs.declared.Passed.{Passed}
 use Rattle.history.specs.declared.Passed.TheVariants as passed
 use Rattle.history.specs.Pass.{Outcome, pass_loaded, pass_of}
 use Rattle.history.specs.Sound.{Ready}
 use Rattle.history.specs.State.{State}
-use Rattle.history.specs.contracts.Passed.{enum}
 use Rattle.history.proofs.Passes.{pass_loaded_lem, Changes, changed}
 use Rattle.history.proofs.Ready.{ready_accepted}
 use Rattle.job.specs.Code.Passes.{made, Made}
@@ -67,8 +62,3 @@ module _ {n k : ℕ} {s₀ s : State} (g : Going n s₀ k s) (l : k < n) where
 pub all : {n k : ℕ} {s₀ s : State} → Going n s₀ k s → n ≤ k → Made (made n s₀) (record { answer = passed.Changed; job = s.job }) s.first s.second
 unfolding made
 all {n} {k} {s₀} {s} g l = let e : n - k ≡ 0 = omega (arith, g.within) in rw (g.rest ∙ ap (λ (m : ℕ). made m s) e) (refl, refl, refl)
-
-pub not_changed : (a : Passed) → (tag_of (declared enum) a ≡ 1) ⊎ (tag_of (declared enum) a ≡ 2) → a ≡ passed.Changed → ⊥
-not_changed passed.Changed k e = ⊎_elim (λ t. omega arith) (λ t. omega arith) k
-not_changed passed.Stable k e = let y : ◌≡◌ {A = ℕ} 0 1 = cc in omega arith
-not_changed (passed.Refused r) k e = let y : ◌≡◌ {A = ℕ} 0 1 = cc in omega arith

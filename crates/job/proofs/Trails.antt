@@ -32,7 +32,7 @@ use Rattle.filter.specs.Repeated.{Trail, begin, shown, next, onward, stops, rest
 use Rattle.job.proofs.Counts.{ltb_sub}
 use Rattle.job.proofs.OnePart.{One, one_none, one_counts}
 use Rattle.job.proofs.Runs.{made_first}
-use Rattle.operator.specs.Image.{added, removed, differs}
+use Rattle.operator.specs.Image.{differs}
 use Rattle.operator.specs.Parts.{summed}
 use Rattle.seq.proofs.Lists.{either}
 use Rattle.seq.proofs.Tests.{or_none_left, or_none_right}

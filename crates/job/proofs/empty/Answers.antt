@@ -1,0 +1,7 @@
+-- `job::empty` is the definition. Assumes nothing.
+use Rattle.history.specs.State.{empty_job}
+use Rattle.job.proofs.empty.Goals as goal
+
+pub returns : goal.returns
+unfolding empty_job
+returns c = rw c.none.ensures
