@@ -5,7 +5,7 @@
 --     lagged_last       the last is the number drawn
 --     each_place        what holds of the last place and of all before it holds of each
 -- Assumes nothing.
-use Rattle.std.proofs.Common.{◌≡◌, ℕ, zero, suc, ◌+◌, ◌-◌, ◌<◌, ltb, [], length, get_or, drop, sym, ap, ◌∙◌, subst, ⊎_elim, arith, length-append, length-drop, get_or-drop, ltb-false, ltb-true}
+use Rattle.std.proofs.Common.{◌≡◌, ℕ, zero, suc, ◌+◌, ◌-◌, ◌<◌, ltb, [], length, get_or, drop, ap, ◌∙◌, subst, ⊎_elim, arith, length-append, length-drop, get_or-drop, ltb-false, ltb-true}
 use lib.ListN.{get_or-append}
 use lib.Seq.{get_or_at}
 use Rattle.noise.specs.Generator.{long_lag, seeded, next_of, lagged, drawn}

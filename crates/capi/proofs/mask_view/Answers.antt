@@ -1,0 +1,18 @@
+-- `capi::mask_view`: by the verdict; on a sound record the pixels are few. Assumes nothing.
+use mathlib.Core.Path.{sym, ◌∙◌}
+use native.Mathlib.Omega.{arith}
+use Rattle.capi.proofs.PartLaws.{part_refused, part_accepted}
+use Rattle.history.proofs.Ready.{accepted_ready, ready_small}
+use Rattle.capi.proofs.mask_view.Goals as goal
+
+pub overflow_mul-result : goal.overflow_mul-result
+overflow_mul-result c =
+    record { fits = omega (arith, ready_small (accepted_ready _ (sym c.view_verdict-checked.ensures ∙ c.in-Accepted.is))) }
+
+pub returns-in-Refused : goal.returns-in-Refused
+returns-in-Refused c =
+    rw c.of_verdict.ensures (part_refused _ (sym c.view_verdict-checked.ensures ∙ c.in-Refused.is))
+
+pub returns-in-Accepted : goal.returns-in-Accepted
+returns-in-Accepted c =
+    rw c.of_verdict-in-Accepted.ensures (part_accepted _ (sym c.view_verdict-checked.ensures ∙ c.in-Accepted.is) c.holder.ensures)
