@@ -1,6 +1,11 @@
 // Files by name, in the current folder. What fails is said on standard error.
-ghost use Rattle.std.specs.Prelude.{◌≡◌};
-ghost use Rattle.io.specs.Counts.{IsPrefixLen};
+ghost use Rattle.std.specs.Prelude.{◌≡◌, ◌≤◌, length};
+
+use crate::say;
+use std::fs::{OpenFile, OpenOptions};
+use std::io::{ErrorKind, Read, Write};
+use std::rt::Runtime;
+use std::{fs, io};
 
 // How many bytes of a buffer came from a file, and whether it is there and cannot be read.
 #[derive(Clone, Copy)]
@@ -9,54 +14,50 @@ pub(crate) struct Input {
     pub failed: bool,
 }
 
-// A new file, and its name. The descriptor is below 0 where none could be made.
-#[derive(Clone, Copy)]
-struct Part {
-    file: i32,
+// A new file or why there is none, and its name.
+#[derive(Drop)]
+struct Part<F: Drop> {
+    file: io::Result<F>,
     name: [u8; 17],
 }
 
 // Fills the buffer from the file, as far as it goes. A missing file counts as empty (01).
-pub(crate) fn read(path: &[u8], buffer: &mut [u8]) -> Input
-    ensures { IsPrefixLen result.length buffer.new }
+pub(crate) fn read<R: Runtime>(rt: &R, path: &str, buffer: &mut [u8]) -> Input
+    ensures { result.length ≤ length buffer.new }
 {
-    let file = os::open_read(path);
-    if file < 0 {
-        return unopened(path);
+    match fs::open(rt, path) {
+        Ok(mut file) => fill(rt, path, &mut file, buffer),
+        Err(error) => unopened(rt, path, &error),
     }
-    let input = fill(file, buffer);
-    if input.failed {
-        os::fail(path);
-    }
-    libc::close(file);
-    input
 }
 
-fn unopened(path: &[u8]) -> Input
+fn unopened<R: Runtime>(rt: &R, path: &str, error: &io::Error) -> Input
     ensures { result.length ≡ 0 }
 {
-    let failed = os::errno() != libc::ENOENT;
+    let failed = error.kind() != ErrorKind::NotFound;
     if failed {
-        os::fail(path);
+        say::failed(rt, path, error);
     }
     Input { length: 0, failed }
 }
 
 // Reads until the buffer is full or the file ends.
-fn fill(file: i32, buffer: &mut [u8]) -> Input
-    ensures { IsPrefixLen result.length buffer.new }
+fn fill<R: Runtime, F: Read>(rt: &R, path: &str, file: &mut F, buffer: &mut [u8]) -> Input
+    ensures { result.length ≤ length buffer.new }
 {
     let mut length = 0;
     while length < buffer.len() {
-        let got = libc::read(file, &mut buffer[length..]);
-        let more = io::count(got, &buffer[length..]);
-        if more == 0 {
-            return Input {
-                length,
-                failed: got < 0,
-            };
+        match file.read(&mut buffer[length..]) {
+            Ok(0) => break,
+            Ok(more) => length += more,
+            Err(error) => {
+                say::failed(rt, path, &error);
+                return Input {
+                    length,
+                    failed: true,
+                };
+            }
         }
-        length += more;
     }
     Input {
         length,
@@ -65,36 +66,68 @@ fn fill(file: i32, buffer: &mut [u8]) -> Input
 }
 
 // Writes the bytes to a new file and then gives it the name clean.pbm, which is there whole or as it was.
-pub(crate) fn replace(bytes: &[u8]) -> bool {
-    let part = create();
-    let name = part.name;
-    if part.file < 0 {
-        os::fail(&name);
+pub(crate) fn replace<R: Runtime>(rt: &R, bytes: &[u8]) -> bool {
+    let Part { file, name } = create(rt);
+    let name = text_of(&name);
+    let file = match file {
+        Ok(file) => file,
+        Err(error) => {
+            say::failed(rt, name, &error);
+            return false;
+        }
+    };
+    let moved = match store(file, bytes) {
+        Ok(()) => fs::rename(rt, name, "clean.pbm"),
+        Err(error) => Err(error),
+    };
+    if let Err(error) = moved {
+        say::failed(rt, "clean.pbm", &error);
+        let _ = fs::remove_file(rt, name);
         return false;
     }
-    let written = io::write_all(part.file, bytes);
-    let closed = libc::close(part.file) == 0;
-    if written && closed && os::rename(&name, b"clean.pbm") == 0 {
-        return true;
-    }
-    os::fail(b"clean.pbm");
-    os::unlink(&name);
-    false
+    true
 }
 
-// The first of a hundred names that nothing has, not even a link: os::create takes no other.
-fn create() -> Part {
-    for k in 0..100 {
-        let name = part_name(k);
-        let file = os::create(&name);
-        if file >= 0 || os::errno() != libc::EEXIST {
-            return Part { file, name };
+// The file is closed when this returns, and what a close would report is asked for before.
+fn store<F: Write + OpenFile + Drop>(mut file: F, bytes: &[u8]) -> io::Result<()> {
+    file.write_all(bytes)?;
+    file.sync_data()
+}
+
+// The first of a hundred names that nothing has, not even a link.
+fn create<R: Runtime>(rt: &R) -> Part<R::File> {
+    let first = attempt(rt, 0);
+    if !is_taken(&first) {
+        return first;
+    }
+    for k in 1..100 {
+        let part = attempt(rt, k);
+        if !is_taken(&part) {
+            return part;
         }
     }
-    Part {
-        file: -1,
-        name: part_name(0),
+    first
+}
+
+fn attempt<R: Runtime>(rt: &R, k: u8) -> Part<R::File> {
+    let name = part_name(k);
+    let file = OpenOptions::new()
+        .write(true)
+        .create_new(true)
+        .open(rt, text_of(&name));
+    Part { file, name }
+}
+
+fn is_taken<F: Drop>(part: &Part<F>) -> bool {
+    match &part.file {
+        Ok(_) => false,
+        Err(error) => error.kind() == ErrorKind::AlreadyExists,
     }
+}
+
+// The name as text; it is ASCII, so no other bytes come here.
+fn text_of(name: &[u8; 17]) -> &str {
+    str::from_utf8(name).unwrap_or("clean.pbm.00.part")
 }
 
 fn part_name(k: u8) -> [u8; 17] {
