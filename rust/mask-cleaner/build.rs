@@ -1,4 +1,4 @@
-//! Links the archive of the library: the one named by MASK_CLEANER_ARCHIVE, or the one that `rt staticlib capi` makes.
+//! Links the archive of the library: the one named by MASK_CLEANER_ARCHIVE, or the one that `tools/build capi` makes.
 
 use std::path::{Path, PathBuf};
 
@@ -17,7 +17,7 @@ fn main() {
     });
     assert!(
         archive.is_file(),
-        "no archive {}: run `rt staticlib capi` first, or set {VARIABLE}",
+        "no archive {}: run `tools/build capi` first, or set {VARIABLE}",
         archive.display()
     );
     println!("cargo:rustc-link-search=native={}", folder.display());

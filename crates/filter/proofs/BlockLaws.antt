@@ -3,7 +3,7 @@
 --     own_code         the plane's bits of a pixel of the block; outside the image there are none
 --     own_opened       the map's bits at the pixel itself
 --     candidate_inside a candidate by the operator's words; candidate-outside: none lies outside
---     block_judged     a marked row has the flips, and no pixel of another row changes; scene-judged: where the masks are given beside the table
+--     block_judged     a marked row has the flips, and no pixel of another row changes; scene_judged: where the masks are given beside the table
 --     rows_untouched   nothing else is written
 -- Assumes nothing.
 use mathlib.Core.Bool.{Bool, true, false, not, ◌&&◌, and-false}

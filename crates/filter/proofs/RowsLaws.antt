@@ -1,7 +1,7 @@
 -- Marks of rows, and what they say of a next pass.
 --     range_none, range_more        a search along rows: what holds of each row passed, at its start and one row further
 --     or_none, none_or              a join is 0 exactly where both sides are
---     spread_none, spread_more      marks that are spread: none, and one join more; spread-after: over rows that were stored before
+--     spread_none, spread_more      marks that are spread: none, and one join more; spread_after: over rows that were stored before
 --     quiet_next                    where no row within reach changed in a pass, the next pass changes nothing
 --     turned_kept, kept_turned      a pixel of the image after the changes S stays exactly where S does not hold
 --     still_next                    the marks of a pass, spread, are marks for the next pass

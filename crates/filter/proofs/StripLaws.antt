@@ -6,7 +6,7 @@
 --     changes_none, changes_join, changes_few, changes_whole     of no row, of more rows, how many at most, and of all rows
 --     changes_fit, room_fits                  all these numbers are small
 --     changed_sum, changed_none, changed_join, changes_next     the counts of the code
---     made_none, made_join, made_all          rows that are written, one stretch behind the other; joined-few: few changes in both
+--     made_none, made_join, made_all          rows that are written, one stretch behind the other; joined_few: few changes in both
 --     within_room, over_room                  whether there is room for all changes
 -- Assumes nothing.
 use mathlib.Core.Bool.{false}

@@ -3,8 +3,8 @@
 --     needs_none, needs_one             what a pass needs, at rest and at stage 1
 --     channel_split                     25, then 14 and 16, then 24
 --     none_left, some_left, at_rest     at stage 1, without and with a pass left, and at rest
---     channel_refused                   refused by 25, 14 or 16; channel-barred: by 25; channel-unready: by 14 or 16
---     ChannelWay q i s, channel-way     the five ways, and that it goes one of them
+--     channel_refused                   refused by 25, 14 or 16; channel_barred: by 25; channel_unready: by 14 or 16
+--     ChannelWay q i s, channel_way     the five ways, and that it goes one of them
 --     rule_number                       25 is said at place 0
 --     Continues q i s, continues        what a channel's pass that answers "changed" has done
 --     continues_on, stops_short         a pass that changes pixels: where one is left to pay for it, and where none is

@@ -1,7 +1,7 @@
 -- Images, and those of a file.
 --     none_above     no pixel is above 1
 --     file_image     an accepted file holds an image
---     image_writable     the image writer accepts an image of a size within the limits; strip-writable: the writer of strips, one of such parts
+--     image_writable     the image writer accepts an image of a size within the limits; strip_writable: the writer of strips, one of such parts
 -- Assumes nothing.
 use mathlib.Core.Bool.{false}
 use mathlib.Core.List.{List}

@@ -1,6 +1,6 @@
 -- What a call leaves of the areas: their lengths, and every byte past the image (01, The job).
 --     Stays n s u          from s to u the areas keep their lengths, and their bytes from n on
---     load_stays, pass_stays, run_stays     load, pass and run; channel-stays, channel-run-stays: a channel's pass and run
+--     load_stays, pass_stays, run_stays     load, pass and run; channel_stays, channel_run_stays: a channel's pass and run
 --     kept                 the claim, for every call
 -- Assumes nothing.
 use mathlib.Core.Bool.{true, ◌||◌}

@@ -1,11 +1,11 @@
 -- The parts of a record: what 14 leaves of them, and that a pass which changes pixels keeps it so.
---     GoodParts j, parts-good, good-parts     each of 14's conditions on the parts, and the other way round
+--     GoodParts j, parts_good, good_parts     each of 14's conditions on the parts, and the other way round
 --     good_past                               zeros past the parts
 --     good_wide, good_high, good_small        a pixel at least, and no more than the largest strip has
 --     good_sides                              one part is of a size within the limits
 --     good_rows                               the image's pixels are those of the parts
 --     good_loaded                             the record of a load
---     Counted n xs, counted-more              counts of parts that sum to n, zeros past the parts; so with those of a step
+--     Counted n xs, counted_more              counts of parts that sum to n, zeros past the parts; so with those of a step
 --     good_changed                            after a pass that changes pixels
 -- Assumes nothing.
 use mathlib.Core.Bool.{Bool, true, false, not, ◌&&◌, ◌||◌}

@@ -1,13 +1,13 @@
 -- Laws of a quota (02, T-10).
 --     place_inside            a place that holds something lies in the list
---     rule_charged            25 does not see a charge; rule-charged-for: nor several
+--     rule_charged            25 does not see a charge; rule_charged_for: nor several
 --     left_charged, pool_charged    what a charge leaves of the channel's reserve, and of the pool
---     available_charged       one pass less is left; available-charged-for: n less
+--     available_charged       one pass less is left; available_charged_for: n less
 --     left_charged_for        what n charges leave of the reserve
 --     rule_range              channels that 25 lets through
 --     SameShape, shape_charged       a charge leaves channels, allowance and reserves, and how many places there are
 --     left_other, left_other_for     and what is left to the other channels
---     total q, total-charged-for     all that is left: n charges take n of it
+--     total q, total_charged_for     all that is left: n charges take n of it
 --     opened_accepted, opened_fits   what opening gives, and that its reserves are within the allowance
 --     kept_unread, opened_unread     reserves past the channels are unread
 --     kept_again, opened_again       a quota that was opened keeps its reserves, and opened again is as it was

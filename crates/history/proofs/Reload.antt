@@ -1,8 +1,8 @@
 -- What an accepted collect wrote, loaded again with its table, stays until a collect is accepted.
---     Same e d, same-passed, same-ran     two entries with one table, size and first image; so are those before and after passes
---     Keeps e w, keeps-step, keeps-play   the history holds such an entry, and keeps one until a collect is accepted
+--     Same e d, same_passed, same_ran     two entries with one table, size and first image; so are those before and after passes
+--     Keeps e w, keeps-step, keeps_play   the history holds such an entry, and keeps one until a collect is accepted
 --     by_answer                           what an accepted collect wrote is the file of the last image
---     Again e x, again-file, again-strip  a source of the last image: the file of a single one, and the parts of any
+--     Again e x, again_file, again_strip  a source of the last image: the file of a single one, and the parts of any
 --     reloads, relaid                     the claims
 -- Assumes nothing.
 use mathlib.Core.Bool.{Bool, true, false, cond, not, ◌&&◌}

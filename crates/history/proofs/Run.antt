@@ -2,7 +2,7 @@
 --     run_once, run_stops               a run that its first pass ends
 --     settled_stays                     passes leave a settled entry as it is
 --     few_passes                        a run of at most n passes makes at most n
---     course s e n, step-pass, step_run     a job beside an entry, and a pass and a run there
+--     course s e n, step_pass, step_run     a job beside an entry, and a pass and a run there
 --     Begins s e, begins                the two ways that a run begins
 --     pass_answer                       a pass answers "at rest" exactly where the mark stands afterwards
 --     run_plays                         record, areas, history and tally after a run are those after its passes

@@ -7,20 +7,20 @@
 --     covers        black pixels, pixels, and the cover expected of them
 --     covers_met    computed
 --     empty_with t   an empty record, but for its table
---     tables        one field of each is not zero; unsound-met: computed, with such a table it is unsound
+--     tables        one field of each is not zero; unsound_met: computed, with such a table it is unsound
 --     held_with t    a record of a blank 5 × 5 image, with a table
---     bad_threes     three files, with the refusal of each load on empty areas; threes-met: computed; parts r: what a refusal consists of
+--     bad_threes     three files, with the refusal of each load on empty areas; threes_met: computed; parts r: what a refusal consists of
 --     three_cases_met   one theorem, computed: loads of three files in a list
 --     given n ws hs     a strip of n parts; white, seam: 5 × 5 pixels, all white, and black only at (2, 2)
---     bad_strips         strips, with the refusal of each load on empty areas; strips-met: computed
---     seam_strip         parts of 5 × 3 and 5 × 2, black only beside the seam; strip-cases-met: one theorem, computed: its load in a list
---     seam_ran           that strip at rest; part-counts-met: computed, its parts' counts
---     seam_files         the files of its parts; part-files-met: computed, collect writes them and leaves the output behind them
---     alone_file         the file of the first part; alone-met: computed, alone it keeps the black pixel
+--     bad_strips         strips, with the refusal of each load on empty areas; strips_met: computed
+--     seam_strip         parts of 5 × 3 and 5 × 2, black only beside the seam; strip_cases_met: one theorem, computed: its load in a list
+--     seam_ran           that strip at rest; part_counts_met: computed, its parts' counts
+--     seam_files         the files of its parts; part_files_met: computed, collect writes them and leaves the output behind them
+--     alone_file         the file of the first part; alone_met: computed, alone it keeps the black pixel
 --     counted g l       the counts of parts; part_job w h p c: a record of 3 added and 4 removed, with its parts
 --     sound_strip, sound_counts   of a sound record; bad_part_jobs: records that differ from it in one thing of the parts
 --     parts_unsound_met     computed: each of these is unsound, and the sound one is not
---     bad_tables     with the refusal of each; loads-met: computed, a load passes it on; held-met: computed, held in a record the table is 14 with zeros
+--     bad_tables     with the refusal of each; loads_met: computed, a load passes it on; held_met: computed, held in a record the table is 14 with zeros
 -- Assumes nothing.
 use Rattle.std.specs.Prelude.{true, false, cond, List, [], ◌∷◌, ◌++◌, map, ◌≡◌, refl, ℕ, replicate}
 use Rattle.operator.specs.Image.{black}

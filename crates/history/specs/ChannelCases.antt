@@ -1,16 +1,16 @@
 -- Quotas, a channel's calls and a fleet of two channels, computed, with what 02 (T-10) says of them.
 --     quota_of n m rs      a quota of n channels with the allowance m and the reserves rs, not opened yet
---     openings            such quotas, with what is left when they are opened; openings-met: computed
---     bad_openings         quotas that are refused by 25; bad-openings-met, handed-back-met: computed, and they are handed back
+--     openings            such quotas, with what is left when they are opened; openings_met: computed
+--     bad_openings         quotas that are refused by 25; bad_openings_met, handed_back_met: computed, and they are handed back
 --     spoken v            number and place; left_in q: what is left, and the pool
 --     full                a record whose next pass 14's pass clause refuses; unsound_full: an unsound one; no_job: an empty one
 --     spent_out, one_pass_left, five_channels     quotas with nothing and with one pass left, and with a channel too many
---     orders              records with a quota and a channel, with the refusal of a pass and of a run; orders-met: computed
+--     orders              records with a quota and a channel, with the refusal of a pass and of a run; orders_met: computed
 --     uncharged_met       computed: what 14's pass clause refuses is not charged
 --     asked m F           what a move is refused by; seen F i: what is seen of channel i
 --     row m F             after a move: its refusal, what is left, and of both channels stage, passes, the tally and what was spent
 --     trace ms F          the rows of a list of moves
---     moves, expected     two channels that clean a black pixel each; fleet-met: one theorem, computed
+--     moves, expected     two channels that clean a black pixel each; fleet_met: one theorem, computed
 -- Assumes nothing.
 use Rattle.std.specs.Prelude.{true, List, [], ◌∷◌, ◌++◌, map, ◌≡◌, refl, ℕ, ◌+◌, ◌-◌, ◌^◌, replicate}
 use Rattle.operator.specs.Samples.{ring}

@@ -2,7 +2,7 @@
 --     rows_at       a pixel of some rows is the image's own
 --     rows_length   as many pixels as the rows have
 --     first_part, part_behind    the first part; those behind it are parts of what is below it
---     part_ends     a part ends within the strip; part-last: the last one where the strip does
+--     part_ends     a part ends within the strip; part_last: the last one where the strip does
 -- Assumes nothing.
 use mathlib.Core.List.{List, [], ◌∷◌}
 use mathlib.Core.Path.{◌≡◌, sym, ap, ◌∙◌}

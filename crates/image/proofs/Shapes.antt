@@ -1,9 +1,9 @@
 -- The shape of a strip: what rules 23 and 10 leave of its parts, and the record that is made of them.
 --     sides_good                               a size that rule 10 lets pass
---     Rows hs, rows_few, rows-some             heights within the limit: at most max_side rows for each part, and at least one
---     Shape p, shape-good, good-shape          each rule of an accepted shape, and an accepted shape from its rules
+--     Rows hs, rows_few, rows_some             heights within the limit: at most max_side rows for each part, and at least one
+--     Shape p, shape_good, good_shape          each rule of an accepted shape, and an accepted shape from its rules
 --     shape_count, shape_heights, shape_rows   as many heights as parts, each within the limit; the rows of the strip
---     Listed w hs, shape-listed, one-listed    parts as the rules leave them: those of an accepted shape, and a single image
+--     Listed w hs, shape_listed, one_listed    parts as the rules leave them: those of an accepted shape, and a single image
 --     past_padded                              zeros past them
 --     of_heights, of_width, of_shape           the record of such parts gives back their heights and width, and is accepted
 --     of_widths_past, of_heights_past          zeros past them

@@ -5,8 +5,8 @@
 --     files_alike        the length of the files does not hang on the pixels
 --     file_few, files_few     how long they are at most
 --     files_next         the files that are left: that of the part at hand, and those behind it
---     Measured           the lengths of the parts' files, added up; measured-none, measured-fits, measured-more, measured-all
---     PartsPut           the files of the parts passed are written; put-none, put-fits, put-more, put_all
+--     Measured           the lengths of the parts' files, added up; measured_none, measured_fits, measured_more, measured_all
+--     PartsPut           the files of the parts passed are written; put_none, put-fits, put_more, put_all
 -- Assumes nothing.
 use mathlib.Core.Bool.{true}
 use mathlib.Core.List.{List, [], ◌∷◌, ◌++◌}

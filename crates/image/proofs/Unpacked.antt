@@ -4,7 +4,7 @@
 --     row_byte_lem         the byte at hand lies in the row
 --     ImageDone        where the loop over the rows stands: the rows passed are unpacked, and the next starts at `from` in the raster, at `to` in the area
 --     image_none, image_more, image_all, image_fits    its start, a row, its end, and that the row at hand lies in both
---     FilledBy         the answer and the area afterwards; fill-short, fill-whole: the area is too short; it is filled
+--     FilledBy         the answer and the area afterwards; fill_short, fill_whole: the area is too short; it is filled
 -- Assumes nothing.
 use mathlib.Core.List.{List}
 use mathlib.Core.Path.{◌≡◌, ap, ◌∙◌}

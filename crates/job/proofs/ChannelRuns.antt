@@ -1,7 +1,7 @@
 -- A channel's pass and run (02, T-10), by passes at stage 1: what they take of the quota is charged at once.
 --     channel_run_refused                           a run that 25, 14 or 16 refuses
 --     channel_stable, channel_run_stable            a pass and a run at stage 2
---     Rises n s o, made-rises                       the passes that several take; taken: of what a function handed back
+--     Rises n s o, made_rises                       the passes that several take; taken: of what a function handed back
 --     free_rule, free_ready                         what holds where 25, 14 and 16 let a call pass
 --     channel_metered, run_metered                  a channel's pass and run at stage 1
 --     metered_made                                  the same of what a function handed back

@@ -1,7 +1,7 @@
 -- The filter's passes on a job that is ready and not at rest.
 --     ready_one                a record with one part
 --     Repeats s n a b m x y    the filter's answer m and the areas x and y, for at most n passes from the area a to b
---     Holds s a b              the image stands in the area a; holds-even, holds-odd: in the area that the parity names
+--     Holds s a b              the image stands in the area a; holds_even, holds_odd: in the area that the parity names
 --     fits                     the record's counts with those passes do not wrap
 --     even_sum                 the parity of a sum
 --     made_even, made_odd      record and areas afterwards are those of the passes on the job

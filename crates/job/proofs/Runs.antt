@@ -1,6 +1,6 @@
 -- Passes at stage 1 one after the other, and a run by them: one check of the record is enough, since a changing pass leaves the record sound.
 --     run_stable               a run that stage 2 ends before it begins
---     made_first               several passes by their first; made-goes, made_ends: by its answer
+--     made_first               several passes by their first; made_goes, made_ends: by its answer
 --     made_one                 one of them
 --     made_run                 as many as a run makes
 -- Assumes nothing.

@@ -8,7 +8,7 @@
 --     onward_here, rested_here      a pass that changes pixels, and one that changes none
 --     pass_rests, -stops, -goes     the three ways that the next pass on the job goes
 --     follow_made                   the filter's passes are the passes on the job
---     Within b c, follow-within     the filter keeps to its budget
+--     Within b c, follow_within     the filter keeps to its budget
 -- Assumes nothing.
 use mathlib.Core.Bool.{Bool, true, false, cond, not, ◌||◌}
 use mathlib.Core.List.{List}

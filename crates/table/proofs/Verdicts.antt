@@ -2,13 +2,13 @@
 --     search_lt           what a search found is below its bound
 --     count_le, ranks_le                the rules 3 and 18 bound the counts
 --     lowest_bad_element t, lowest_persistent t, lowest_apart t, lowest_missed t      what the rules 4, 6, 5 and 7 find
---     places_search, ranks_search    as the code searches for it; element-found, persistent-found: it is a place
---     misses_at, misses_nowhere      what an answer on the persistent elements says; apart-lt, missed-lt: the witnesses of the rules 5 and 7;
---         meets_each, persistent-each: an element that has none
+--     places_search, ranks_search    as the code searches for it; element_found, persistent_found: it is a place
+--     misses_at, misses_nowhere      what an answer on the persistent elements says; apart_lt, missed_lt: the witnesses of the rules 5 and 7;
+--         meets_each, persistent_each: an element that has none
 --     meet_refused, persist_refused     these rules, where something is found
 --     record_count, record_place, record_persistents       the first rule that fails speaks
 --     ranks_refused, persistent_refused, persistents_accepted     the first of the rules behind those on the elements
---     Sound t, record-sound, sound-record    what an accepted record has passed, both ways
+--     Sound t, record_sound, sound_record    what an accepted record has passed, both ways
 --     record_says, record_numbers    what a record is refused by, and by which numbers
 -- Assumes nothing.
 use mathlib.Core.Bool.{Bool, true, false, not}
