@@ -1,27 +1,21 @@
 -- `noise::draw` meets its contract: after i turns i pixels are filled in, and the ring holds the 55 numbers from number i on. Assumes nothing.
-use Rattle.std.proofs.Common.{◌≡◌, ◌-◌, ap, ◌∙◌, arith, rules}
+use Rattle.std.proofs.Common.{◌≡◌, ap, ◌∙◌, arith, rules}
 use Rattle.noise.specs.Noise.{blackness}
 use Rattle.noise.proofs.Ring.{ring_none, ring_drawn, ring_more}
-use Rattle.seq.proofs.Tab.{fill_none, fill_more, fill_length}
+use Rattle.seq.proofs.Tab.{fill_none, fill_more}
 use Rattle.verdict.proofs.Writer.{filled_over}
 use Rattle.noise.proofs.draw.Goals as goal
 
 pub loop-i-init : goal.loop-i-init
 loop-i-init c = (search rules, fill_none _ _, ring_none c.seeds-ring.ensures)
 
-pub bounds-area-i : goal.bounds-area-i
-bounds-area-i c = omega (arith, fill_length c.loop-i.invariant.1, c.loop-i-test.true)
-
 pub loop-i-preserved : goal.loop-i-preserved
 loop-i-preserved c =
-    let drew = ring_drawn c.loop-i.invariant.2 c.wrapping_add_u32-number.ensures in (
+    let drew = ring_drawn c.loop-i.invariant.2 c.wrapping_add_u32-number.ensures.value in (
       search rules,
       fill_more c.loop-i.invariant.1 (omega (arith, c.requires, c.loop-i-test.true)) (c.black.ensures ∙ ap blackness drew),
       ring_more c.loop-i.invariant.2 drew c.after-oldest.ensures c.after-recent.ensures,
     )
-
-pub shape_of-area : goal.shape_of-area
-shape_of-area c = fill_length c.loop-i.invariant.1
 
 pub returns : goal.returns
 returns c = let end : c.loop-i.i ≡ c.args.count = omega arith in filled_over (rw end at c.loop-i.invariant.1)

@@ -2,9 +2,6 @@
 use Rattle.std.proofs.Common.{◌≡◌, ◌-◌, ◌≤◌}
 use Rattle.noise.specs.Generator.{long_lag, seeded}
 use Rattle.seq.specs.Tab.{Filled}
-use Rattle.noise.proofs.generator.seeds.Reads as reads
-use Rattle.noise.proofs.generator.seeds.Lts as lts
-use Rattle.std.proofs.num.wrapping_add_u32.Reads as wrapping-add-u32-reads
 use Rattle.noise.proofs.generator.seeds.Given as goal
 
 abbrev pub invariant-loop-k : goal.invariant-loop-k
