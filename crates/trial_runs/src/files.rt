@@ -2,6 +2,7 @@
 use crate::bytes::AREA;
 use crate::grid::{Place, Size};
 use crate::{bytes, grid};
+use std::fmt::InlineText;
 
 // A file, and zeros after it.
 #[derive(Clone, Copy)]
@@ -21,10 +22,10 @@ pub(crate) fn written(size: Size, pixels: &[u8]) -> Sheet {
 
 // The decimal digits of a number and the byte after them; answers the index that follows.
 fn put_number(n: usize, byte: u8, out: &mut [u8], at: usize) -> usize {
-    let mut digits = [0u8; 20];
-    let count = io::decimal(n as u64, &mut digits);
-    let end = bytes::more(at, count);
-    bytes::copy(&digits[..count], count, out, at);
+    let digits = InlineText::<20>::of(n);
+    let text = digits.as_str();
+    let end = bytes::more(at, text.len());
+    bytes::copy(text.as_bytes(), text.len(), out, at);
     bytes::put(out, end, byte);
     bytes::more(end, 1)
 }

@@ -17,11 +17,13 @@ mod sides;
 mod tables;
 mod trials;
 
-fn main() {
-    trials::width(256);
-    trials::width(257);
-    let tally = trials::generated(trials::median(), 1, 8, 8);
+use std::io;
+
+fn main(rt: HostRuntime) -> io::Result<()> {
+    trials::width(&rt, 256)?;
+    trials::width(&rt, 257)?;
+    let tally = trials::generated(trials::median(&rt)?, 1, 8, 8);
     let tally = trials::generated(tally, 2, 33, 33);
     let tally = trials::generated(tally, 3, 256, 4);
-    report::summary(trials::generated(tally, 4, 4, 256));
+    report::summary(&rt, trials::generated(tally, 4, 4, 256))
 }

@@ -1,8 +1,11 @@
 // What the trials found, counted and printed.
 use crate::bytes;
 use history::Job;
-use libc::STDOUT_FILENO;
+use std::io;
 
+const PRINTED: usize = 20;
+
+// `seeds` has the seeds of the first disagreements.
 #[derive(Clone, Copy)]
 pub(crate) struct Tally {
     pub pairs: usize,
@@ -10,6 +13,7 @@ pub(crate) struct Tally {
     pub passes: usize,
     pub pixels: usize,
     pub wrong: usize,
+    pub seeds: [u32; PRINTED],
 }
 
 pub(crate) fn none() -> Tally {
@@ -19,6 +23,7 @@ pub(crate) fn none() -> Tally {
         passes: 0,
         pixels: 0,
         wrong: 0,
+        seeds: [0; PRINTED],
     }
 }
 
@@ -38,42 +43,23 @@ pub(crate) fn with_pair(tally: Tally, job: Job) -> Tally {
     next
 }
 
-const PRINTED: usize = 20;
-
-// One disagreement more; of the first few the job's seed is printed.
+// One disagreement more; of the first few the job's seed is kept for the summary.
 pub(crate) fn disagree(tally: Tally, seed: u32) -> Tally {
-    if tally.wrong < PRINTED {
-        print(
-            b"disagreement in the job of seed #\n",
-            [seed as usize, 0, 0, 0, 0],
-        );
-    }
     let mut next = tally;
+    if tally.wrong < PRINTED {
+        next.seeds[tally.wrong] = seed;
+    }
     next.wrong = bytes::more(tally.wrong, 1);
     next
 }
 
-// The text, with a number in each place of `#`.
-pub(crate) fn print(text: &[u8], numbers: [usize; 5]) {
-    let mut k: usize = 0;
-    for i in 0..text.len() {
-        if text[i] == b'#' {
-            io::print_decimal(STDOUT_FILENO, numbers[k % 5] as u64);
-            k = bytes::more(k, 1);
-        } else {
-            print_byte(text[i]);
-        }
+pub(crate) fn summary(rt: &impl Print, t: Tally) -> io::Result<()> {
+    for seed in t.seeds.iter().take(t.wrong) {
+        println!(rt; "disagreement in the job of seed {seed}")?;
     }
-}
-
-fn print_byte(byte: u8) {
-    let text = [byte];
-    io::write_all(STDOUT_FILENO, &text);
-}
-
-pub(crate) fn summary(t: Tally) {
-    print(
-        b"pairs of table and image #\ncalls compared #\npasses that changed pixels #\npixels changed in them #\ndisagreements #\n",
-        [t.pairs, t.calls, t.passes, t.pixels, t.wrong],
-    );
+    println!(rt; "pairs of table and image {}", t.pairs)?;
+    println!(rt; "calls compared {}", t.calls)?;
+    println!(rt; "passes that changed pixels {}", t.passes)?;
+    println!(rt; "pixels changed in them {}", t.pixels)?;
+    println!(rt; "disagreements {}", t.wrong)
 }

@@ -5,20 +5,21 @@ use crate::bytes::AREA;
 use crate::grid::Size;
 use crate::report::Tally;
 use crate::{bytes, definition, generator, images, jobs, library, report, sides, tables};
+use std::io;
 
 const PAIRS: usize = 2048;
 
 // A white image of this width and of one row: the number that load refuses it by, or 0.
-pub(crate) fn width(width: usize) {
+pub(crate) fn width(rt: &impl Print, width: usize) -> io::Result<()> {
     let size = Size { width, height: 1 };
     let white = definition::load(tables::ring(), size, bytes::filled(0));
     let loaded = library::load(sides::start(), white);
     let number = loaded.told % library::REFUSED;
-    report::print(b"width #: refusal #\n", [width, number, 0, 0, 0]);
+    println!(rt; "width {width}: refusal {number}")
 }
 
 // Median's 56 elements on 24 × 24, black only at columns 11 to 12, rows 9 to 14.
-pub(crate) fn median() -> Tally {
+pub(crate) fn median(rt: &impl Print) -> io::Result<Tally> {
     let size = Size {
         width: 24,
         height: 24,
@@ -27,11 +28,11 @@ pub(crate) fn median() -> Tally {
     let stable = library::run(library::load(sides::start(), loaded));
     let job = stable.job;
     let table = job.table;
-    report::print(
-        b"median's # elements on 24 x 24: # passes, # added, # removed\n",
-        [table.count, job.passes, job.added, job.removed, 0],
-    );
-    jobs::whole(report::none(), 0, loaded)
+    println!(rt;
+        "median's {} elements on 24 x 24: {} passes, {} added, {} removed",
+        table.count, job.passes, job.added, job.removed
+    )?;
+    Ok(jobs::whole(report::none(), 0, loaded))
 }
 
 fn bar() -> [u8; AREA] {
