@@ -15,7 +15,7 @@ use native.Mathlib.Numerals.{add-one}
 use Rattle.history.specs.declared.Passed.TheVariants as passing
 use Rattle.history.specs.declared.Quota.{Quota}
 use Rattle.history.specs.Answered.{rest_if, rest_as, figures_by, answered_by}
-use Rattle.history.specs.Call.{Call, load, pass, run, view, figures, collect, channelPass, channelRun, loaded, passed, shown, answer_of, state_of, refusal_of}
+use Rattle.history.specs.Call.{Call, load, pass, run, view, figures, collect, channelPass, channelRun, loaded, passed, answer_of, state_of, refusal_of}
 use Rattle.history.specs.Channel.{ChannelOutcome, spent_rule, channel_pass_of, channel_run_of}
 use Rattle.history.specs.Collect.{collect_written, collect_output}
 use Rattle.history.specs.Demand3.{QuotaBack}

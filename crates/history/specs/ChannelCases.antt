@@ -12,7 +12,7 @@
 --     trace ms F          the rows of a list of moves
 --     moves, expected     two channels that clean a black pixel each; fleet_met: one theorem, computed
 -- Assumes nothing.
-use Rattle.std.specs.Prelude.{true, List, [], ◌∷◌, ◌++◌, map, ◌≡◌, refl, ℕ, ◌+◌, ◌-◌, ◌^◌, replicate}
+use Rattle.std.specs.Prelude.{true, List, [], ◌∷◌, ◌++◌, map, ◌≡◌, refl, ℕ, ◌-◌, ◌^◌, replicate}
 use Rattle.operator.specs.Samples.{ring}
 use Rattle.history.specs.declared.Quota.{Quota}
 use Rattle.history.specs.Call.{load, channelPass, channelRun, answer_of, refusal_of}

@@ -12,7 +12,6 @@ use Prim.Native.Nat.{ℕ, ◌+◌, ◌*◌, ◌<◌, min, max}
 use lib.Dec.{eqb}
 use Rattle.operator.specs.Image.{pixel}
 use Rattle.operator.specs.Heijmans.{black_at, psi_at, psi, alpha, beta, modified, AllHeijmans}
-use Rattle.operator.specs.Pass.{opened}
 use Rattle.operator.specs.Plain.{opposed, plain_at, plain}
 use Rattle.operator.specs.Window.{site_row, site_col}
 use Rattle.morph.specs.Heijmans as sites

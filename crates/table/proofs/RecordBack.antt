@@ -10,7 +10,6 @@ use borrow.Author.Tests.{eqb-true, eqb-false, ne_eqb}
 use lib.Dec.{eqb}
 use lib.ListN.{length, get_or, take, drop}
 use lib.Seq.{length-take-le, get_or-take}
-use Rattle.seq.specs.Lists.{one}
 use Rattle.seq.specs.Tab.{up_to}
 use Rattle.seq.proofs.Tests.{in_range}
 use Rattle.table.specs.declared.Table.{Table}

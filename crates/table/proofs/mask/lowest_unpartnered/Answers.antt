@@ -1,7 +1,6 @@
 -- `mask::lowest_unpartnered` meets its contract: a search over the positions.
 -- Assumes nothing.
 use mathlib.Core.Path.{sym, ◌∙◌}
-use Prim.Native.Nat.{◌-◌}
 use Rattle.seq.proofs.Search.{passed_none, passed_more, passed_found, passed_all}
 use Rattle.table.specs.Mask.{unpartnered}
 use Rattle.table.proofs.mask.lowest_unpartnered.Goals as goal

@@ -1,6 +1,5 @@
 -- `number::more_at` meets its contract: the bytes with bit 7 set are counted.
 -- Assumes nothing.
-use Prim.Native.Nat.{◌-◌}
 use native.Mathlib.Omega.{arith}
 use lib.ListN.{length-drop}
 use lib.Seq.{get_or-drop}

@@ -1,6 +1,5 @@
 -- `number::put_at` meets its contract.
 -- Assumes nothing.
-use Prim.Native.Nat.{◌-◌}
 use native.Mathlib.Omega.{arith}
 use Rattle.table.proofs.Bytes.{putting_none, putting_length, putting_more, putting_all}
 use Rattle.table.proofs.number.put_at.Goals as goal

@@ -1,7 +1,7 @@
 -- `reading::read_masks` meets its contract.
 -- Assumes nothing.
 use mathlib.Core.Path.{sym, ap, ◌∙◌}
-use Prim.Native.Nat.{ℕ, ◌-◌, ◌+◌}
+use Prim.Native.Nat.{ℕ, ◌+◌}
 use native.Mathlib.Omega.{arith}
 use Rattle.table.proofs.Steps.{stepped_none, stepped_more, stepped_refused, stepped_bad, stepped_all}
 use Rattle.verdict.specs.declared.Verdict.TheVariants.{Refused}

@@ -1,12 +1,10 @@
 -- `record::check_meeting` meets its contract: a search over the elements.
 -- Assumes nothing.
 use mathlib.Core.Path.{sym, ap, ◌∙◌}
-use Prim.Native.Nat.{◌-◌}
 use native.Mathlib.Omega.{arith}
 use Rattle.seq.specs.Lists.{is_some}
 use Rattle.seq.proofs.Search.{passed_none, passed_more, passed_found, passed_all}
 use Rattle.table.specs.Code.Search.{found}
-use Rattle.table.specs.Record.{disjoint_from}
 use Rattle.table.proofs.Places.{found_none}
 use Rattle.table.proofs.Verdicts.{apart_lt, meet_refused}
 use Rattle.table.proofs.record.check_meeting.Goals as goal

@@ -1,11 +1,9 @@
 -- `record::check_persistence` meets its contract: a search over the elements.
 -- Assumes nothing.
 use mathlib.Core.Path.{sym, ap, ◌∙◌}
-use Prim.Native.Nat.{◌-◌}
 use native.Mathlib.Omega.{arith}
 use Rattle.seq.specs.Lists.{is_some}
 use Rattle.seq.proofs.Search.{passed_none, passed_more, passed_found, passed_all}
-use Rattle.table.specs.Record.{missed_by}
 use Rattle.table.proofs.Verdicts.{misses_at, misses_nowhere, missed_lt, persist_refused}
 use Rattle.table.proofs.record.check_persistence.Goals as goal
 

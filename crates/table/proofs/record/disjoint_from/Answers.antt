@@ -1,6 +1,5 @@
 -- `record::disjoint_from` meets its contract: a search over the earlier elements.
 -- Assumes nothing.
-use Prim.Native.Nat.{◌-◌}
 use Rattle.seq.proofs.Search.{passed_none, passed_more, passed_found, passed_all}
 use Rattle.table.specs.Record.{disjoint_from}
 use Rattle.table.proofs.Positions.{apart_masks, meeting_masks}

@@ -1,7 +1,6 @@
 -- `record::first_bad` meets its contract: a search over the places.
 -- Assumes nothing.
 use mathlib.Core.Path.{sym, ◌∙◌}
-use Prim.Native.Nat.{◌-◌}
 use native.Mathlib.Omega.{arith}
 use Rattle.seq.proofs.Search.{passed_none, passed_more, passed_found, passed_all}
 use Rattle.table.specs.Code.Search.{lowest_bad}

@@ -1,7 +1,6 @@
 -- `record::missed_by` meets its contract: a search over the persistent elements.
 -- Assumes nothing.
 use mathlib.Core.Path.{sym, ap, ◌∙◌}
-use Prim.Native.Nat.{◌-◌}
 use native.Mathlib.Omega.{arith}
 use Rattle.seq.proofs.Search.{passed_none, passed_more, passed_found, passed_all}
 use Rattle.seq.specs.Lists.{is_some}

@@ -1,6 +1,6 @@
 -- `record::persistent_place` meets its contract: the only one, and one of several.
 -- Assumes nothing.
-use Rattle.std.proofs.Common.{arith, rules}
+use Rattle.std.proofs.Common.{arith}
 use Rattle.std.proofs.lemmas.Bool.Decides.{nat_tests}
 use Rattle.table.specs.Record.{persistent_place}
 use Rattle.table.proofs.record.persistent_place.Goals as goal

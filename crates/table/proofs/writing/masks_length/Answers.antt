@@ -1,7 +1,6 @@
 -- `writing::masks_length` meets its contract.
 -- Assumes nothing.
 use mathlib.Core.Path.{ap, ◌∙◌}
-use Prim.Native.Nat.{◌-◌}
 use native.Mathlib.Omega.{arith}
 use lib.ListN.{length, get_or}
 use Rattle.table.proofs.Bytes.{first_size, first_all, count_bounds}

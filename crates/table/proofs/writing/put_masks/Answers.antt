@@ -1,6 +1,5 @@
 -- `writing::put_masks` meets its contract.
 -- Assumes nothing.
-use Prim.Native.Nat.{◌-◌}
 use Rattle.table.proofs.Bytes.{placed_none, placed_length, placed_fits, placed_more, placed_all}
 use Rattle.table.proofs.writing.put_masks.Goals as goal
 
