@@ -24,7 +24,7 @@ use Rattle.history.proofs.Fleet as together
 use Rattle.history.specs.declared.Passed.{Passed}
 use Rattle.history.specs.declared.Passed.TheVariants as passing
 use Rattle.history.specs.declared.Quota.{Quota}
-use Rattle.history.specs.Call.{Call, pass, channelPass, channelRun, passed, answer_of, refusal_of}
+use Rattle.history.specs.Call.{Call, pass, channel_pass, channel_run, passed, answer_of, refusal_of}
 use Rattle.history.specs.Channel as paying
 use Rattle.history.specs.Channel.{channel_verdict, channel_as, channel_pass_of, channel_run_of}
 use Rattle.history.specs.ChannelCases as cases
@@ -124,25 +124,25 @@ module _ (q : Quota) (i : ℕ) (s : State) where
 
   -- 25 under its condition, before all else
   pub no_channel_refused : channel_rule q i ≢ Accepted
-      → (refusal_of (answer_of (channelPass q i) s) ≡ Refused (refusal 25 0)) × (refusal_of (answer_of (channelRun q i) s) ≡ Refused (refusal 25 0))
-  no_channel_refused n = (demand_1.given (channelPass q i) s 25 (no_channel n), demand_1.given (channelRun q i) s 25 (no_channel n))
+      → (refusal_of (answer_of (channel_pass q i) s) ≡ Refused (refusal 25 0)) × (refusal_of (answer_of (channel_run q i) s) ≡ Refused (refusal 25 0))
+  no_channel_refused n = (demand_1.given (channel_pass q i) s 25 (no_channel n), demand_1.given (channel_run q i) s 25 (no_channel n))
 
   -- 24 at the channel, where a pass, alone or in a run, meets stage 1 and none is left
   pub spent_pass : channel_rule q i ≡ Accepted → (Unsound s → ⊥) → s.job.stage ≡ 1 → available q i ≡ 0
-      → refusal_of (answer_of (channelPass q i) s) ≡ Refused (refusal 24 i)
-  spent_pass k u z l = demand_1.given (channelPass q i) s 24 (spent (k, u, z, l))
+      → refusal_of (answer_of (channel_pass q i) s) ≡ Refused (refusal 24 i)
+  spent_pass k u z l = demand_1.given (channel_pass q i) s 24 (spent (k, u, z, l))
 
   pub spent_run : channel_rule q i ≡ Accepted → (Unsound s → ⊥) → s.job.stage ≡ 1
-      → ((j : ℕ) → j < available q i → (pass_of (after_passes j s)).answer ≡ passing.Changed) → refusal_of (answer_of (channelRun q i) s) ≡ Refused (refusal 24 i)
-  spent_run k u z g = demand_1.given (channelRun q i) s 24 (spent (k, u, z, g))
+      → ((j : ℕ) → j < available q i → (pass_of (after_passes j s)).answer ≡ passing.Changed) → refusal_of (answer_of (channel_run q i) s) ≡ Refused (refusal 24 i)
+  spent_run k u z g = demand_1.given (channel_run q i) s 24 (spent (k, u, z, g))
 
   -- 14's pass clause, where one is left
-  pub overruns_pass : channel_rule q i ≡ Accepted → 0 < available q i → Overruns s → refusal_of (answer_of (channelPass q i) s) ≡ Refused (refusal 14 0)
-  overruns_pass k l o = demand_1.given (channelPass q i) s 14 (stopped (k, l, o))
+  pub overruns_pass : channel_rule q i ≡ Accepted → 0 < available q i → Overruns s → refusal_of (answer_of (channel_pass q i) s) ≡ Refused (refusal 14 0)
+  overruns_pass k l o = demand_1.given (channel_pass q i) s 14 (stopped (k, l, o))
 
   pub overruns_run : channel_rule q i ≡ Accepted → (n : ℕ) → n < available q i → ((j : ℕ) → j < n → (pass_of (after_passes j s)).answer ≡ passing.Changed)
-      → Overruns (after_passes n s) → refusal_of (answer_of (channelRun q i) s) ≡ Refused (refusal 14 0)
-  overruns_run k n l g o = demand_1.given (channelRun q i) s 14 (stopped (k, (n, l, g, o)))
+      → Overruns (after_passes n s) → refusal_of (answer_of (channel_run q i) s) ≡ Refused (refusal 14 0)
+  overruns_run k n l g o = demand_1.given (channel_run q i) s 14 (stopped (k, (n, l, g, o)))
 
   -- a refused pass hands the quota back as it was; a run is its finished passes, each paid for, and then a pass that rests or is refused
   pub handed_back : (r : Refusal) → (channel_pass_of q i s).answer ≡ passing.Refused r → (channel_pass_of q i s).quota ≡ q
@@ -166,12 +166,12 @@ module _ (q : Quota) (i : ℕ) (s : State) where
 
 -- of two quotas with equally many channels: the same refusal, or one of them is 24
 module _ (q q' : Quota) (i : ℕ) (s : State) (same : q.channels ≡ q'.channels) where
-  pub only_24_pass : (refusal_of (answer_of (channelPass q i) s) ≡ refusal_of (answer_of (channelPass q' i) s))
-      ⊎ ((refusal_of (answer_of (channelPass q i) s) ≡ Refused (refusal 24 i)) ⊎ (refusal_of (answer_of (channelPass q' i) s) ≡ Refused (refusal 24 i)))
+  pub only_24_pass : (refusal_of (answer_of (channel_pass q i) s) ≡ refusal_of (answer_of (channel_pass q' i) s))
+      ⊎ ((refusal_of (answer_of (channel_pass q i) s) ≡ Refused (refusal 24 i)) ⊎ (refusal_of (answer_of (channel_pass q' i) s) ≡ Refused (refusal 24 i)))
   only_24_pass = (together.rounds).only_24_pass q q' i s same
 
-  pub only_24_run : (refusal_of (answer_of (channelRun q i) s) ≡ refusal_of (answer_of (channelRun q' i) s))
-      ⊎ ((refusal_of (answer_of (channelRun q i) s) ≡ Refused (refusal 24 i)) ⊎ (refusal_of (answer_of (channelRun q' i) s) ≡ Refused (refusal 24 i)))
+  pub only_24_run : (refusal_of (answer_of (channel_run q i) s) ≡ refusal_of (answer_of (channel_run q' i) s))
+      ⊎ ((refusal_of (answer_of (channel_run q i) s) ≡ Refused (refusal 24 i)) ⊎ (refusal_of (answer_of (channel_run q' i) s) ≡ Refused (refusal 24 i)))
   only_24_run = (together.rounds).only_24_run q q' i s same
 
 -- in every list of calls on a job, with any quota
@@ -186,23 +186,23 @@ module _ (cs : List Call) (a b : List ℕ) (q : Quota) (i : ℕ) where
     most = e.width * e.height + 1
 
     -- 24 and 25 follow from the quota
-    pub pass_refused_by : refusal_of (answer_of (channelPass q i) (state cs a b)) ≡ judge (channel_rule q i ∷ refuse_if (ltb (available q i) (needed 1 e)) 24 i ∷ [])
+    pub pass_refused_by : refusal_of (answer_of (channel_pass q i) (state cs a b)) ≡ judge (channel_rule q i ∷ refuse_if (ltb (available q i) (needed 1 e)) 24 i ∷ [])
     unfolding refused_by
-    pass_refused_by = rw h at ((demand_3.after_list cs a b).refused (channelPass q i))
+    pass_refused_by = rw h at ((demand_3.after_list cs a b).refused (channel_pass q i))
 
-    pub run_refused_by : refusal_of (answer_of (channelRun q i) (state cs a b)) ≡ judge (channel_rule q i ∷ refuse_if (ltb (available q i) (needed most e)) 24 i ∷ [])
+    pub run_refused_by : refusal_of (answer_of (channel_run q i) (state cs a b)) ≡ judge (channel_rule q i ∷ refuse_if (ltb (available q i) (needed most e)) 24 i ∷ [])
     unfolding refused_by
-    run_refused_by = rw h at ((demand_3.after_list cs a b).refused (channelRun q i))
+    run_refused_by = rw h at ((demand_3.after_list cs a b).refused (channel_run q i))
 
     module _ (rule : channel_rule q i ≡ Accepted) where
       -- at rest one pass that spends nothing; else as many as are needed, or as are left
       abbrev made : ℕ → ℕ
       made n = cond e.settled 1 (min (available q i) (needed n e))
 
-      pub pass_singly : step (channelPass q i) (course cs a b) ≡ play (replicate (made 1) pass) (course cs a b)
+      pub pass_singly : step (channel_pass q i) (course cs a b) ≡ play (replicate (made 1) pass) (course cs a b)
       pass_singly = ((demand_3.after_list cs a b).channel_as_passes e h q i rule).pass_singly
 
-      pub run_singly : step (channelRun q i) (course cs a b) ≡ play (replicate (made most) pass) (course cs a b)
+      pub run_singly : step (channel_run q i) (course cs a b) ≡ play (replicate (made most) pass) (course cs a b)
       run_singly = ((demand_3.after_list cs a b).channel_as_passes e h q i rule).run_singly
 
       pub pass_quota : (channel_pass_of q i (state cs a b)).quota ≡ charged_for (min (available q i) (needed 1 e)) q i
@@ -213,8 +213,8 @@ module _ (cs : List Call) (a b : List ℕ) (q : Quota) (i : ℕ) where
 
     -- a stable image that was loaded
     pub rest_answers : operator.pass e.table e.width e.height (first_of e) ≡ first_of e
-        → (refusal_of (answer_of (channelPass q i) (state cs a b)) ≡ Accepted → answer_of (channelPass q i) (state cs a b) ≡ passed passing.Stable)
-        × (refusal_of (answer_of (channelRun q i) (state cs a b)) ≡ Accepted → answer_of (channelRun q i) (state cs a b) ≡ passed passing.Stable)
+        → (refusal_of (answer_of (channel_pass q i) (state cs a b)) ≡ Accepted → answer_of (channel_pass q i) (state cs a b) ≡ passed passing.Stable)
+        × (refusal_of (answer_of (channel_run q i) (state cs a b)) ≡ Accepted → answer_of (channel_run q i) (state cs a b) ≡ passed passing.Stable)
     rest_answers s = let r = demand_3.rests cs a b e h s in (r.channel_pass_answer q i, r.channel_run_answer q i)
 
 -- all channels together: any list of moves from a quota that was opened, each channel with areas of its own
@@ -242,11 +242,11 @@ module _ (q : Quota) (ok : open_verdict q ≡ Accepted) (a b : ℕ → List ℕ)
     reserve = ((together.rounds).after_round q ok a b ms).reserve i rule
 
     pub usable_pass : (e : Entry) → (F.courses i).history ≡ holds e → F.spent i < own_reserve
-        → refusal_of (answer_of (channelPass F.quota i) (F.courses i).state) ≡ Accepted
+        → refusal_of (answer_of (channel_pass F.quota i) (F.courses i).state) ≡ Accepted
     usable_pass e = ((together.rounds).after_round q ok a b ms).usable_pass i e rule
 
     pub usable_run : (e : Entry) → (F.courses i).history ≡ holds e → F.spent i + needed (e.width * e.height + 1) e ≤ own_reserve
-        → refusal_of (answer_of (channelRun F.quota i) (F.courses i).state) ≡ Accepted
+        → refusal_of (answer_of (channel_run F.quota i) (F.courses i).state) ≡ Accepted
     usable_run e = ((together.rounds).after_round q ok a b ms).usable_run i e rule
 
   pub within_allowance : sum_of (tab (λ k. F.spent (k + 1)) 4) + (sum_of F.quota.left + F.quota.pool) ≡ q.allowance

@@ -24,7 +24,7 @@ use Rattle.history.specs.declared.Passed.{Passed}
 use Rattle.history.specs.declared.Passed.TheVariants as passing
 use Rattle.history.specs.declared.Quota.{Quota}
 use Rattle.history.specs.Answered.{rest_if, rest_as}
-use Rattle.history.specs.Call.{pass, channelPass, channelRun, state_of}
+use Rattle.history.specs.Call.{pass, channel_pass, channel_run, state_of}
 use Rattle.history.specs.Channel.{ChannelOutcome, spent_rule, paid, channel_pass_of, channel_run_for, channel_run_of}
 use Rattle.history.specs.Demand1.{after_passes}
 use Rattle.history.specs.Demand3.{ChannelAsPasses}
@@ -258,19 +258,19 @@ one_pass q i e = ⊎_elim settled unsettled (either e.settled)
         (either (ltb (available q i) 1))
 
 module _ (q : Quota) (i : ℕ) (rule : channel_rule q i ≡ verdict.Accepted) (s : State) (e : Entry) (n : ℕ) where
-  step_channel_pass : step (channelPass q i) (course s e n) ≡ course (channel_pass_of q i s).state (passed_for (made 1 q i e) e) (n + made 1 q i e)
+  step_channel_pass : step (channel_pass q i) (course s e n) ≡ course (channel_pass_of q i s).state (passed_for (made 1 q i e) e) (n + made 1 q i e)
   unfolding step state_of after barred_by refused_by accepted tallied
   step_channel_pass = by (one_pass q i e)
     where
-      by : OnePass q i e → step (channelPass q i) (course s e n) ≡ course (channel_pass_of q i s).state (passed_for (made 1 q i e) e) (n + made 1 q i e)
+      by : OnePass q i e → step (channel_pass q i) (course s e n) ≡ course (channel_pass_of q i s).state (passed_for (made 1 q i e) e) (n + made 1 q i e)
       by (one a m) = rw (rule, a, m)
       by (none a m) = rw (rule, a, m) (ap (course _ e) (omega arith))
 
-  step_channel_run : step (channelRun q i) (course s e n)
+  step_channel_run : step (channel_run q i) (course s e n)
       ≡ course (channel_run_of q i s).state (passed_for (made (e.width * e.height + 1) q i e) e) (n + made (e.width * e.height + 1) q i e)
   unfolding step state_of after barred_by accepted tallied
   step_channel_run =
-      ap (λ (v : Verdict). record { state = (channel_run_of q i s).state; history = after_as v (channelRun q i) (holds e); tally = tally_as v (channelRun q i) (holds e) n }) rule
+      ap (λ (v : Verdict). record { state = (channel_run_of q i s).state; history = after_as v (channel_run q i) (holds e); tally = tally_as v (channel_run q i) (holds e) n }) rule
 
 pub channel_as_passes : (q : Quota) (i : ℕ) → channel_rule q i ≡ verdict.Accepted → {s : State} {e : Entry} {n : ℕ} → Held s e n
     → ChannelAsPasses (course s e n) e q i

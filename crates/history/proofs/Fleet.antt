@@ -19,7 +19,7 @@ use lib.Dec.{eqb}
 use lib.ListN.{get_or}
 use Rattle.history.specs.declared.Quota.{Quota}
 use Rattle.history.specs.Answers.{passed_verdict}
-use Rattle.history.specs.Call.{Call, channelPass, channelRun, answer_of, refusal_of}
+use Rattle.history.specs.Call.{Call, channel_pass, channel_run, answer_of, refusal_of}
 use Rattle.history.specs.Channel.{ChannelOutcome, channel_pass_of, channel_run_of}
 use Rattle.history.specs.Demand3.{AfterList, played, lent}
 use Rattle.history.specs.Fleet.{Fleet, begun, Move, passes, runs, own, renew, spent_as, put, perform, moved, AfterRound, PlainBut24, SameBut24, Rounds}
@@ -183,13 +183,13 @@ module _ (q : Quota) (ok : open_verdict q ≡ Accepted) (a b : ℕ → List ℕ)
   sound_perform : (m : Move) (F : Fleet) → Sound q a b F → Sound q a b (perform m F)
   unfolding perform
   sound_perform (passes i) F x = record {
-    alone = one_more a b x.alone i (channelPass F.quota i);
+    alone = one_more a b x.alone i (channel_pass F.quota i);
     shared =
         rw (pass_paid (each x i) F.quota i (channel_rule F.quota i) refl (F.courses i).history refl)
         (shared_paid x.shared i (λ e. 1) (channel_rule F.quota i) refl (F.courses i).history);
   }
   sound_perform (runs i) F x = record {
-    alone = one_more a b x.alone i (channelRun F.quota i);
+    alone = one_more a b x.alone i (channel_run F.quota i);
     shared =
         rw (run_paid (each x i) F.quota i (channel_rule F.quota i) refl (F.courses i).history refl)
         (shared_paid x.shared i (λ e. e.width * e.height + 1) (channel_rule F.quota i) refl (F.courses i).history);
@@ -220,19 +220,19 @@ module _ (q : Quota) (ok : open_verdict q ≡ Accepted) (a b : ℕ → List ℕ)
     within_reserve i n rule l = let r = reserve i rule in omega arith
 
     usable_pass : (i : ℕ) (e : Entry) → channel_rule F.quota i ≡ Accepted → (F.courses i).history ≡ holds e → F.spent i < reserve_of (open_quota q) i
-        → refusal_of (answer_of (channelPass F.quota i) (F.courses i).state) ≡ Accepted
+        → refusal_of (answer_of (channel_pass F.quota i) (F.courses i).state) ≡ Accepted
     unfolding refused_by
     usable_pass i e rule h l =
         let some = within_reserve i 1 rule (omega arith) in
-        (each x i).refused (channelPass F.quota i) ∙ rw (h, rule, le-ltb (available F.quota i) (needed 1 e) (omega (arith, one_at_most e)))
+        (each x i).refused (channel_pass F.quota i) ∙ rw (h, rule, le-ltb (available F.quota i) (needed 1 e) (omega (arith, one_at_most e)))
 
     usable_run : (i : ℕ) (e : Entry) → channel_rule F.quota i ≡ Accepted → (F.courses i).history ≡ holds e
         → F.spent i + needed (e.width * e.height + 1) e ≤ reserve_of (open_quota q) i
-        → refusal_of (answer_of (channelRun F.quota i) (F.courses i).state) ≡ Accepted
+        → refusal_of (answer_of (channel_run F.quota i) (F.courses i).state) ≡ Accepted
     unfolding refused_by
     usable_run i e rule h l =
         let some = within_reserve i (needed (e.width * e.height + 1) e) rule l in
-        (each x i).refused (channelRun F.quota i) ∙ rw (h, rule, le-ltb (available F.quota i) (needed (e.width * e.height + 1) e) some)
+        (each x i).refused (channel_run F.quota i) ∙ rw (h, rule, le-ltb (available F.quota i) (needed (e.width * e.height + 1) e) some)
 
     sound_round : AfterRound q a b F
     sound_round = record {
@@ -259,8 +259,8 @@ module _ (q q' : Quota) (i : ℕ) (s : State) (same : q.channels ≡ q'.channels
   unfolding channel_rule lacks
   same_rule = rw same
 
-  only_24 : (v : Verdict) → channel_rule q i ≡ v → SameBut24 i (refusal_of (answer_of (channelPass q i) s)) (refusal_of (answer_of (channelPass q' i) s))
-      × SameBut24 i (refusal_of (answer_of (channelRun q i) s)) (refusal_of (answer_of (channelRun q' i) s))
+  only_24 : (v : Verdict) → channel_rule q i ≡ v → SameBut24 i (refusal_of (answer_of (channel_pass q i) s)) (refusal_of (answer_of (channel_pass q' i) s))
+      × SameBut24 i (refusal_of (answer_of (channel_run q i) s)) (refusal_of (answer_of (channel_run q' i) s))
   unfolding answer_of
   only_24 Accepted k =
       let u = unmetered q i s k in

@@ -14,7 +14,7 @@ use lib.Dec.{ltb}
 use lib.ListN.{length, drop}
 use Rattle.history.specs.declared.Job.{Job}
 use Rattle.history.specs.declared.Quota.{Quota}
-use Rattle.history.specs.Call.{Call, load, pass, run, view, figures, collect, channelPass, channelRun, is_load, state_of}
+use Rattle.history.specs.Call.{Call, load, pass, run, view, figures, collect, channel_pass, channel_run, is_load, state_of}
 use Rattle.history.specs.Channel.{channel_pass_of, channel_run_of}
 use Rattle.history.specs.Collect.{collect_verdict, collect_as, collect_state}
 use Rattle.history.specs.Demand1.{after_passes, Goes, reach, Areas}
@@ -167,8 +167,8 @@ stays run s = run_stays s
 stays view s = same 0 s
 stays figures s = same 0 s
 stays (collect out) s = collect_stays (length out) s
-stays (channelPass q i) s = channel_stays q i s
-stays (channelRun q i) s = channel_run_stays q i s
+stays (channel_pass q i) s = channel_stays q i s
+stays (channel_run q i) s = channel_run_stays q i s
 
 -- load fills the first area only
 load_second : (c : Call) (s : State) → is_load c ≡ true → (state_of c s).second ≡ s.second
@@ -183,8 +183,8 @@ load_second run s l = clash l refl
 load_second view s l = clash l refl
 load_second figures s l = clash l refl
 load_second (collect out) s l = clash l refl
-load_second (channelPass q i) s l = clash l refl
-load_second (channelRun q i) s l = clash l refl
+load_second (channel_pass q i) s l = clash l refl
+load_second (channel_run q i) s l = clash l refl
 
 pub kept : (c : Call) (s : State) → Areas c s
 unfolding lengths_of

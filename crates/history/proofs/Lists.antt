@@ -11,7 +11,7 @@ use mathlib.Core.Path.{◌≡◌, refl, ◌∙◌, subst⁻¹}
 use Prim.Native.Nat.{ℕ, zero, suc, ◌+◌, ◌*◌}
 use lib.ListN.{replicate}
 use Rattle.history.specs.declared.Quota.{Quota}
-use Rattle.history.specs.Call.{Call, load, pass, run, view, figures, collect, channelPass, channelRun, state_of}
+use Rattle.history.specs.Call.{Call, load, pass, run, view, figures, collect, channel_pass, channel_run, state_of}
 use Rattle.history.specs.Demand3.{played, lent}
 use Rattle.history.specs.History.{History, empty, holds, made, refused_by, barred_by, accepted, after}
 use Rattle.history.specs.Lists.{Course, start, lengths_of, tallied, step, play}
@@ -52,21 +52,21 @@ run_keeps s (holds e) n r =
     subst⁻¹ Related a.singly (passes_keep a.passes (course s e n) r)
 
 -- so what the passes of a channel's call keep the call keeps, and one that is refused with nothing done alters nothing
-channel_pass_keeps : (c : Quota) (i : ℕ) (s : State) (H : History) (n : ℕ) → RelatedTo s H n → Kept (channelPass c i) s H n
+channel_pass_keeps : (c : Quota) (i : ℕ) (s : State) (H : History) (n : ℕ) → RelatedTo s H n → Kept (channel_pass c i) s H n
 unfolding step state_of after barred_by refused_by
 channel_pass_keeps c i s empty n q = let (x, e, p) = empty_unmade c i s q in rw (e, p) q
 channel_pass_keeps c i s (holds e) n r = by (channel_rule c i) refl
   where
-    by : (v : Verdict) → channel_rule c i ≡ v → Kept (channelPass c i) s (holds e) n
+    by : (v : Verdict) → channel_rule c i ≡ v → Kept (channel_pass c i) s (holds e) n
     by (Refused x) k = rw (k, channel_barred c i s k) r
     by Accepted k = subst⁻¹ Related (channel_as_passes c i k r).pass_singly (passes_keep (made 1 c i e) (course s e n) r)
 
-channel_run_keeps : (c : Quota) (i : ℕ) (s : State) (H : History) (n : ℕ) → RelatedTo s H n → Kept (channelRun c i) s H n
+channel_run_keeps : (c : Quota) (i : ℕ) (s : State) (H : History) (n : ℕ) → RelatedTo s H n → Kept (channel_run c i) s H n
 unfolding step state_of after barred_by refused_by
 channel_run_keeps c i s empty n q = let (x, e, p) = empty_unmade c i s q in rw (e, run_unmade c i s p) q
 channel_run_keeps c i s (holds e) n r = by (channel_rule c i) refl
   where
-    by : (v : Verdict) → channel_rule c i ≡ v → Kept (channelRun c i) s (holds e) n
+    by : (v : Verdict) → channel_rule c i ≡ v → Kept (channel_run c i) s (holds e) n
     by (Refused x) k = rw (k, run_unmade c i s (channel_barred c i s k)) r
     by Accepted k = subst⁻¹ Related (channel_as_passes c i k r).run_singly (passes_keep (made (e.width * e.height + 1) c i e) (course s e n) r)
 
@@ -80,8 +80,8 @@ keeps view s (holds e) n r = r
 keeps figures s empty n q = q
 keeps figures s (holds e) n r = r
 keeps (collect out) s H n r = collect_keeps out s H n r
-keeps (channelPass c i) s H n r = channel_pass_keeps c i s H n r
-keeps (channelRun c i) s H n r = channel_run_keeps c i s H n r
+keeps (channel_pass c i) s H n r = channel_pass_keeps c i s H n r
+keeps (channel_run c i) s H n r = channel_run_keeps c i s H n r
 
 pub play_related : (cs : List Call) (w : Course) → Related w → Related (play cs w)
 play_related [] w r = r

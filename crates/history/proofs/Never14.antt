@@ -10,7 +10,7 @@ use mathlib.Core.Path.{◌≡◌, refl}
 use Prim.Native.Nat.{ℕ, ◌+◌, ◌*◌}
 use lib.Dec.{ltb}
 use lib.ListN.{length}
-use Rattle.history.specs.Call.{Call, load, pass, run, view, figures, collect, channelPass, channelRun}
+use Rattle.history.specs.Call.{Call, load, pass, run, view, figures, collect, channel_pass, channel_run}
 use Rattle.history.specs.History.{History, empty, holds, Lengths, needed, files_of, refused_by}
 use Rattle.history.specs.declared.Quota.{Quota}
 use Rattle.history.specs.Load.{areas_rule}
@@ -58,10 +58,10 @@ call_numbers_lem (collect out) n empty = refuses (by refl)
 call_numbers_lem (collect out) n (holds e) =
     says_or (says_if (not e.settled) 17 0 (by refl))
     (says_or (says_if (ltb (length out) (length (files_of e))) 13 0 (by refl)) accepts)
-call_numbers_lem (channelPass q i) n empty = says_or (channel_numbers q i) (says_or (refuses (by refl)) accepts)
-call_numbers_lem (channelPass q i) n (holds e) = says_or (channel_numbers q i) (says_or (says_if (ltb (available q i) (needed 1 e)) 24 i (by refl)) accepts)
-call_numbers_lem (channelRun q i) n empty = says_or (channel_numbers q i) (says_or (refuses (by refl)) accepts)
-call_numbers_lem (channelRun q i) n (holds e) =
+call_numbers_lem (channel_pass q i) n empty = says_or (channel_numbers q i) (says_or (refuses (by refl)) accepts)
+call_numbers_lem (channel_pass q i) n (holds e) = says_or (channel_numbers q i) (says_or (says_if (ltb (available q i) (needed 1 e)) 24 i (by refl)) accepts)
+call_numbers_lem (channel_run q i) n empty = says_or (channel_numbers q i) (says_or (refuses (by refl)) accepts)
+call_numbers_lem (channel_run q i) n (holds e) =
     says_or (channel_numbers q i) (says_or (says_if (ltb (available q i) (needed (e.width * e.height + 1) e)) 24 i (by refl)) accepts)
 
 pub never_14 : (c : Call) (n : Lengths) (H : History) (r : Refusal) → refused_by c n H ≡ Refused r → r.number ≢ 14

@@ -14,7 +14,7 @@ use Rattle.history.specs.declared.Passed.{Passed}
 use Rattle.history.specs.declared.Passed.TheVariants as passing
 use Rattle.history.specs.declared.Quota.{Quota}
 use Rattle.history.specs.Answers.{passed_verdict}
-use Rattle.history.specs.Call.{Call, load, pass, run, view, figures, collect, channelPass, channelRun, is_run, answer_of, state_of, refusal_of, refusing, passed}
+use Rattle.history.specs.Call.{Call, load, pass, run, view, figures, collect, channel_pass, channel_run, is_run, answer_of, state_of, refusal_of, refusing, passed}
 use Rattle.history.specs.Channel.{ChannelOutcome, channel_pass_of}
 use Rattle.history.specs.Collect.{collected, collect_verdict, collect_written, collect_output, collect_state}
 use Rattle.history.specs.Load.{areas_rule, load_verdict, load_state}
@@ -84,8 +84,8 @@ module _ (s : State) {r : Refusal} where
   zeroed view q = rw q
   zeroed figures q = rw (figured_refused s q)
   zeroed (collect out) q = rw (collect_refused out q)
-  zeroed (channelPass c i) q = ap passed (passed_refused _ q)
-  zeroed (channelRun c i) q = ap passed (passed_refused _ q)
+  zeroed (channel_pass c i) q = ap passed (passed_refused _ q)
+  zeroed (channel_run c i) q = ap passed (passed_refused _ q)
 
   -- a pass that is refused goes one of two ways
   pass_unaltered : refusal_of (answer_of pass s) ≡ Refused r → (pass_of s).state ≡ s
@@ -99,7 +99,7 @@ module _ (s : State) {r : Refusal} where
       by (passes.changes x z d e p) = refused_accepted q (rw p)
       by (passes.stopped x z d e p) = ap (λ (o : Outcome). o.state) p
 
-  channel_unaltered : (c : Quota) (i : ℕ) → refusal_of (answer_of (channelPass c i) s) ≡ Refused r → (channel_pass_of c i s).state ≡ s
+  channel_unaltered : (c : Quota) (i : ℕ) → refusal_of (answer_of (channel_pass c i) s) ≡ Refused r → (channel_pass_of c i s).state ≡ s
   unfolding answer_of
   channel_unaltered c i q = by (channel_way c i s)
     where
@@ -120,5 +120,5 @@ module _ (s : State) {r : Refusal} where
   unaltered view n q = refl
   unaltered figures n q = refl
   unaltered (collect out) n q = rw (collect_refused out q)
-  unaltered (channelPass c i) n q = channel_unaltered c i q
-  unaltered (channelRun c i) n q = clash refl n
+  unaltered (channel_pass c i) n q = channel_unaltered c i q
+  unaltered (channel_run c i) n q = clash refl n

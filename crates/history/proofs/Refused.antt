@@ -15,7 +15,7 @@ use native.Mathlib.Numerals.{add-one}
 use Rattle.history.specs.declared.Passed.TheVariants as passing
 use Rattle.history.specs.declared.Quota.{Quota}
 use Rattle.history.specs.Answered.{rest_if, rest_as, figures_by, answered_by}
-use Rattle.history.specs.Call.{Call, load, pass, run, view, figures, collect, channelPass, channelRun, loaded, passed, answer_of, state_of, refusal_of}
+use Rattle.history.specs.Call.{Call, load, pass, run, view, figures, collect, channel_pass, channel_run, loaded, passed, answer_of, state_of, refusal_of}
 use Rattle.history.specs.Channel.{ChannelOutcome, spent_rule, channel_pass_of, channel_run_of}
 use Rattle.history.specs.Collect.{collect_written, collect_output}
 use Rattle.history.specs.Demand3.{QuotaBack}
@@ -60,8 +60,8 @@ answered_empty run s q = rw (run_empty s q)
 answered_empty view s q = rw (ready_empty s q)
 answered_empty figures s q = rw (ready_empty s q)
 answered_empty (collect out) s q = rw (collect_empty out s q)
-answered_empty (channelPass c i) s q = let (x, e, p) = empty_unmade c i s q in rw (e, p)
-answered_empty (channelRun c i) s q = let (x, e, p) = empty_unmade c i s q in rw (e, run_unmade c i s p)
+answered_empty (channel_pass c i) s q = let (x, e, p) = empty_unmade c i s q in rw (e, p)
+answered_empty (channel_run c i) s q = let (x, e, p) = empty_unmade c i s q in rw (e, run_unmade c i s p)
 
 module _ {s : State} {e : Entry} {n : ℕ} (r : Held s e n) where
   -- 25, then 24
@@ -92,8 +92,8 @@ module _ {s : State} {e : Entry} {n : ℕ} (r : Held s e n) where
   answered_held view = simp (ready_held r, r.shown)
   answered_held figures = simp (ready_held r, r.shown, r.job)
   answered_held (collect out) = rw (collect_held r out, collected_held r)
-  answered_held (channelPass c i) = ap passed (channel_answered c i (channel_rule c i) refl).0
-  answered_held (channelRun c i) = ap passed (channel_answered c i (channel_rule c i) refl).1
+  answered_held (channel_pass c i) = ap passed (channel_answered c i (channel_rule c i) refl).0
+  answered_held (channel_run c i) = ap passed (channel_answered c i (channel_rule c i) refl).1
 
 pub answered : (c : Call) (s : State) (H : History) (n : ℕ) → RelatedTo s H n → answer_of c s ≡ answered_by c (lengths_of s) H
 answered c s empty n q = answered_empty c s q
@@ -121,10 +121,10 @@ refused_by_lem figures n empty = refl
 refused_by_lem figures n (holds e) = refl
 refused_by_lem (collect out) n empty = refl
 refused_by_lem (collect out) n (holds e) = written_refusal (refused_by (collect out) n (holds e)) (files_of e)
-refused_by_lem (channelPass c i) n empty = rest_refusal (refused_by (channelPass c i) n empty) false
-refused_by_lem (channelPass c i) n (holds e) = rest_refusal (refused_by (channelPass c i) n (holds e)) (book.passed e).settled
-refused_by_lem (channelRun c i) n empty = rest_refusal (refused_by (channelRun c i) n empty) false
-refused_by_lem (channelRun c i) n (holds e) = rest_refusal (refused_by (channelRun c i) n (holds e)) (book.ran e).settled
+refused_by_lem (channel_pass c i) n empty = rest_refusal (refused_by (channel_pass c i) n empty) false
+refused_by_lem (channel_pass c i) n (holds e) = rest_refusal (refused_by (channel_pass c i) n (holds e)) (book.passed e).settled
+refused_by_lem (channel_run c i) n empty = rest_refusal (refused_by (channel_run c i) n empty) false
+refused_by_lem (channel_run c i) n (holds e) = rest_refusal (refused_by (channel_run c i) n (holds e)) (book.ran e).settled
 
 pub refused : (c : Call) (s : State) (H : History) (n : ℕ) → RelatedTo s H n → refusal_of (answer_of c s) ≡ refused_by c (lengths_of s) H
 refused c s H n r = ap refusal_of (answered c s H n r) ∙ refused_by_lem c (lengths_of s) H
@@ -138,9 +138,9 @@ barred_refused run n H r b = b
 barred_refused view n H r b = b
 barred_refused figures n H r b = b
 barred_refused (collect out) n H r b = b
-barred_refused (channelPass c i) n H r b = b
-barred_refused (channelRun c i) n empty r b = b
-barred_refused (channelRun c i) n (holds e) r b = rw b
+barred_refused (channel_pass c i) n H r b = b
+barred_refused (channel_run c i) n empty r b = b
+barred_refused (channel_run c i) n (holds e) r b = rw b
 
 -- a run on a job that holds an entry is not refused, and on an empty job it alters nothing
 unaltered_run : (s : State) (H : History) (n : ℕ) (r : Refusal) → RelatedTo s H n → refused_by run (lengths_of s) H ≡ Refused r → state_of run s ≡ s
@@ -150,7 +150,7 @@ unaltered_run s (holds e) n r h q = refused_accepted q refl
 
 -- a channel's run that 25 or 16 refuses alters nothing
 unaltered_channel : (c : Quota) (i : ℕ) (s : State) (H : History) (n : ℕ) (r : Refusal) → RelatedTo s H n
-    → barred_by (channelRun c i) (lengths_of s) H ≡ Refused r → state_of (channelRun c i) s ≡ s
+    → barred_by (channel_run c i) (lengths_of s) H ≡ Refused r → state_of (channel_run c i) s ≡ s
 unfolding state_of barred_by
 unaltered_channel c i s empty n r h b = let (x, e, p) = empty_unmade c i s h in ap (λ (o : ChannelOutcome). o.state) (run_unmade c i s p)
 unaltered_channel c i s (holds e) n r h b = ap (λ (o : ChannelOutcome). o.state) (run_unmade c i s (channel_barred c i s b))
@@ -165,8 +165,8 @@ unaltered c s H n r h b = by c b (refused c s H n h ∙ barred_refused c (length
     by view b q = refusals.unaltered s view refl q
     by figures b q = refusals.unaltered s figures refl q
     by (collect out) b q = refusals.unaltered s (collect out) refl q
-    by (channelPass c i) b q = refusals.unaltered s (channelPass c i) refl q
-    by (channelRun c i) b q = unaltered_channel c i s H n r h b
+    by (channel_pass c i) b q = refusals.unaltered s (channel_pass c i) refl q
+    by (channel_run c i) b q = unaltered_channel c i s H n r h b
 
 -- on an empty job, and by 25, a channel's call hands the quota back
 unmade_back : (c : Quota) (i : ℕ) (s : State) {r : Refusal} → channel_pass_of c i s ≡ unmade r s c → QuotaBack c i s

@@ -16,7 +16,7 @@ use lib.ListN.{length, take, replicate}
 use Rattle.operator.specs.Image.{differs}
 use Rattle.operator.specs.Pass.{Stable}
 use Rattle.history.specs.Answered.{answered_by}
-use Rattle.history.specs.Call.{Call, load, pass, run, view, figures, collect, channelPass, channelRun, is_collect, collected, answer_of, state_of, refusal_of}
+use Rattle.history.specs.Call.{Call, load, pass, run, view, figures, collect, channel_pass, channel_run, is_collect, collected, answer_of, state_of, refusal_of}
 use Rattle.history.specs.Collect.{collect_state}
 use Rattle.history.specs.Demand3.{Rests, Reloads}
 use Rattle.history.specs.History.{Entry, History, empty, holds, Lengths, entered, next_of, joined, marked, passed, passed_for, ran, files_of, made, refused_by, barred_by, accepted, after_as, after}
@@ -111,14 +111,14 @@ keeps_call (collect out) {s} {e} {n} r u = record { entry = e; held_by = by (ref
     by : (v : Verdict) → refused_by (collect out) (lengths_of s) (holds e) ≡ v → after_as v (collect out) (holds e) ≡ holds e
     by (Refused x) q = refl
     by Accepted q = clash u (ap (λ (v : Verdict). not (is_accepted v)) (refused (collect out) s (holds e) n r ∙ q))
-keeps_call (channelPass c i) {s} {e} {n} r u = by (channel_rule c i) refl
+keeps_call (channel_pass c i) {s} {e} {n} r u = by (channel_rule c i) refl
   where
-    by : (v : Verdict) → channel_rule c i ≡ v → Keeps e (step (channelPass c i) (course s e n))
+    by : (v : Verdict) → channel_rule c i ≡ v → Keeps e (step (channel_pass c i) (course s e n))
     by Accepted k = kept_for (made 1 c i e) r (channel_as_passes c i k r).pass_singly
     by (Refused x) k = record { entry = e; held_by = rw k; like = same e }
-keeps_call (channelRun c i) {s} {e} {n} r u = by (channel_rule c i) refl
+keeps_call (channel_run c i) {s} {e} {n} r u = by (channel_rule c i) refl
   where
-    by : (v : Verdict) → channel_rule c i ≡ v → Keeps e (step (channelRun c i) (course s e n))
+    by : (v : Verdict) → channel_rule c i ≡ v → Keeps e (step (channel_run c i) (course s e n))
     by Accepted k = kept_for (made (e.width * e.height + 1) c i e) r (channel_as_passes c i k r).run_singly
     by (Refused x) k = record { entry = e; held_by = rw k; like = same e }
 

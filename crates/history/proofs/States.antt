@@ -17,7 +17,7 @@ use lib.Dec.{ltb, eqb}
 use lib.ListN.{length}
 use Rattle.history.specs.declared.Quota.{Quota}
 use Rattle.history.specs.Answers.{passed_verdict}
-use Rattle.history.specs.Call.{Call, load, pass, run, view, figures, collect, channelPass, channelRun, is_load, is_collect, answer_of, refusal_of}
+use Rattle.history.specs.Call.{Call, load, pass, run, view, figures, collect, channel_pass, channel_run, is_load, is_collect, answer_of, refusal_of}
 use Rattle.history.specs.Channel.{ChannelOutcome}
 use Rattle.history.specs.Collect.{collected, collect_verdict, collect_written}
 use Rattle.history.specs.Demand1.{Goes, quota_rule, Stopped, Spent, state_numbers, placed, Cause, no_channel, unsound, stopped, not_collected, nothing_loaded, not_at_rest, spent}
@@ -73,8 +73,8 @@ unready_call s e view k n = e
 unready_call s e figures k n = rw e
 unready_call s e (collect out) k n =
     written_refusal (collect_verdict (length out) s) (collected s) ∙ collect_split (length out) s ∙ rw e
-unready_call s e (channelPass c i) k n = ap (λ (o : ChannelOutcome). passed_verdict o.answer) (channel_unready c i s k e)
-unready_call s e (channelRun c i) k n = ap (λ (o : ChannelOutcome). passed_verdict o.answer) (run_unmade c i s (channel_unready c i s k e))
+unready_call s e (channel_pass c i) k n = ap (λ (o : ChannelOutcome). passed_verdict o.answer) (channel_unready c i s k e)
+unready_call s e (channel_run c i) k n = ap (λ (o : ChannelOutcome). passed_verdict o.answer) (run_unmade c i s (channel_unready c i s k e))
 
 -- 25 before all else
 barred_call : (s : State) {r : Refusal} (c : Call) → quota_rule c ≡ Refused r → refused_with c s ≡ Refused r
@@ -85,8 +85,8 @@ barred_call s run k = refused_accepted k refl
 barred_call s view k = refused_accepted k refl
 barred_call s figures k = refused_accepted k refl
 barred_call s (collect out) k = refused_accepted k refl
-barred_call s (channelPass c i) k = ap (λ (o : ChannelOutcome). passed_verdict o.answer) (channel_barred c i s k)
-barred_call s (channelRun c i) k = ap (λ (o : ChannelOutcome). passed_verdict o.answer) (run_unmade c i s (channel_barred c i s k))
+barred_call s (channel_pass c i) k = ap (λ (o : ChannelOutcome). passed_verdict o.answer) (channel_barred c i s k)
+barred_call s (channel_run c i) k = ap (λ (o : ChannelOutcome). passed_verdict o.answer) (run_unmade c i s (channel_barred c i s k))
 
 quota_number : (c : Call) {r : Refusal} → quota_rule c ≡ Refused r → r ≡ refusal 25 0
 quota_number (load t x) k = refused_accepted k refl
@@ -95,8 +95,8 @@ quota_number run k = refused_accepted k refl
 quota_number view k = refused_accepted k refl
 quota_number figures k = refused_accepted k refl
 quota_number (collect out) k = refused_accepted k refl
-quota_number (channelPass c i) k = rule_number c i k
-quota_number (channelRun c i) k = rule_number c i k
+quota_number (channel_pass c i) k = rule_number c i k
+quota_number (channel_run c i) k = rule_number c i k
 
 module _ (s : State) (bad : state.unsound s ≡ true) where
   unready : ready_verdict s ≡ Refused (refusal 14 0)
@@ -111,8 +111,8 @@ module _ (s : State) (bad : state.unsound s ≡ true) where
   unsound_call view k = unready_call s unready view k refl
   unsound_call figures k = unready_call s unready figures k refl
   unsound_call (collect out) k = unready_call s unready (collect out) k refl
-  unsound_call (channelPass c i) k = unready_call s unready (channelPass c i) k refl
-  unsound_call (channelRun c i) k = unready_call s unready (channelRun c i) k refl
+  unsound_call (channel_pass c i) k = unready_call s unready (channel_pass c i) k refl
+  unsound_call (channel_run c i) k = unready_call s unready (channel_run c i) k refl
 
 module _ (s : State) (good : state.unsound s ≡ false) where
   module _ (empty : s.job.stage ≡ 0) where
@@ -157,8 +157,8 @@ stopped_call run s (k, g, o) =
 stopped_call view s x = absurd x
 stopped_call figures s x = absurd x
 stopped_call (collect out) s x = absurd x
-stopped_call (channelPass c i) s (k, l, o) = ap passed_verdict (stopped_pass c i s k l o)
-stopped_call (channelRun c i) s (k, (j, l, g, o)) = ap passed_verdict (stopped_run c i s k j l g o)
+stopped_call (channel_pass c i) s (k, l, o) = ap passed_verdict (stopped_pass c i s k l o)
+stopped_call (channel_run c i) s (k, (j, l, g, o)) = ap passed_verdict (stopped_run c i s k j l g o)
 
 spent_call : (c : Call) (s : State) → Spent c s → refused_with c s ≡ Refused (refusal 24 (placed c 24))
 unfolding answer_of
@@ -168,8 +168,8 @@ spent_call run s x = absurd x
 spent_call view s x = absurd x
 spent_call figures s x = absurd x
 spent_call (collect out) s x = absurd x
-spent_call (channelPass c i) s (k, u, z, l) = ap passed_verdict (spent_pass c i s k (sound_ready s (sound s u) (λ q. omega (arith, z))) z l)
-spent_call (channelRun c i) s (k, u, z, g) = ap passed_verdict (spent_run c i s k (sound_ready s (sound s u) (λ q. omega (arith, z))) z g)
+spent_call (channel_pass c i) s (k, u, z, l) = ap passed_verdict (spent_pass c i s k (sound_ready s (sound s u) (λ q. omega (arith, z))) z l)
+spent_call (channel_run c i) s (k, u, z, g) = ap passed_verdict (spent_run c i s k (sound_ready s (sound s u) (λ q. omega (arith, z))) z g)
 
 -- 25 where the rule is not accepted
 no_channel_call : (c : Call) (s : State) → quota_rule c ≢ Accepted → refused_with c s ≡ Refused (refusal 25 0)
@@ -190,8 +190,8 @@ given run s n (not_collected g l z) = clash l refl
 given view s n (not_collected g l z) = clash l refl
 given figures s n (not_collected g l z) = clash l refl
 given (collect out) s n (not_collected g l z) = clash l refl
-given (channelPass c i) s n (not_collected g l z) = clash l refl
-given (channelRun c i) s n (not_collected g l z) = clash l refl
+given (channel_pass c i) s n (not_collected g l z) = clash l refl
+given (channel_run c i) s n (not_collected g l z) = clash l refl
 given c s n (nothing_loaded k g l z) = empty_call s (sound s g) z c k l
 given (load t x) s n (not_at_rest g l z) = clash l refl
 given pass s n (not_at_rest g l z) = clash l refl
@@ -199,8 +199,8 @@ given run s n (not_at_rest g l z) = clash l refl
 given view s n (not_at_rest g l z) = clash l refl
 given figures s n (not_at_rest g l z) = clash l refl
 given (collect out) s n (not_at_rest g l z) = loaded_collect s (sound s g) out (λ q. omega (arith, z)) z
-given (channelPass c i) s n (not_at_rest g l z) = clash l refl
-given (channelRun c i) s n (not_at_rest g l z) = clash l refl
+given (channel_pass c i) s n (not_at_rest g l z) = clash l refl
+given (channel_run c i) s n (not_at_rest g l z) = clash l refl
 
 -- a call whose refusal is known, with its cause
 abbrev Caused : Call → State → Refusal → Type 0
@@ -233,19 +233,19 @@ module _ (s : State) (ready : Ready s) {r : Refusal} where
   only_pass q = let (e, o) = refused_pass s ready 0 (λ i l. absurd (omega arith)) q in rw e (stopped o, refl)
 
   -- why a channel's pass is refused, and its run
-  only_channel_pass : (c : Quota) (i : ℕ) → channel_rule c i ≡ Accepted → refused_with (channelPass c i) s ≡ Refused r → Caused (channelPass c i) s r
+  only_channel_pass : (c : Quota) (i : ℕ) → channel_rule c i ≡ Accepted → refused_with (channel_pass c i) s ≡ Refused r → Caused (channel_pass c i) s r
   unfolding answer_of
   only_channel_pass c i k q = by (pass_because c i s k ready q)
     where
-      by : Because c i s 0 r → Caused (channelPass c i) s r
+      by : Because c i s 0 r → Caused (channel_pass c i) s r
       by (inl (e, z, l)) = rw e (spent (k, sound_none s (ready_sound ready), z, l), refl)
       by (inr (e, l, o)) = rw e (stopped (k, l, o), refl)
 
-  only_channel_run : (c : Quota) (i : ℕ) → channel_rule c i ≡ Accepted → refused_with (channelRun c i) s ≡ Refused r → Caused (channelRun c i) s r
+  only_channel_run : (c : Quota) (i : ℕ) → channel_rule c i ≡ Accepted → refused_with (channel_run c i) s ≡ Refused r → Caused (channel_run c i) s r
   unfolding answer_of
   only_channel_run c i k q = let (j, g, b) = run_because c i s k ready q in by j g b
     where
-      by : (j : ℕ) → Goes j s → Because c i s j r → Caused (channelRun c i) s r
+      by : (j : ℕ) → Goes j s → Because c i s j r → Caused (channel_run c i) s r
       by j g (inl (e, z, l)) = rw e (spent (k, sound_none s (ready_sound ready), z, rw l g), refl)
       by j g (inr (e, l, o)) = rw e (stopped (k, (j, l, g, o)), refl)
 
@@ -265,8 +265,8 @@ module _ (s : State) (good : state.unsound s ≡ false) {r : Refusal} where
   only_empty z view k q l = nothing_there z view k refl q
   only_empty z figures k q l = nothing_there z figures k refl q
   only_empty z (collect out) k q l = nothing_there z (collect out) k refl q
-  only_empty z (channelPass c i) k q l = nothing_there z (channelPass c i) k refl q
-  only_empty z (channelRun c i) k q l = nothing_there z (channelRun c i) k refl q
+  only_empty z (channel_pass c i) k q l = nothing_there z (channel_pass c i) k refl q
+  only_empty z (channel_run c i) k q l = nothing_there z (channel_run c i) k refl q
 
   only_ready : (s.job.stage ≡ 0 → ⊥) → (c : Call) → quota_rule c ≡ Accepted → refused_with c s ≡ Refused r
       → (takes c ≡ true → among state_numbers r.number ≡ true) → Caused c s r
@@ -283,8 +283,8 @@ module _ (s : State) (good : state.unsound s ≡ false) {r : Refusal} where
 
       stable : eqb s.job.stage 1 ≡ false → Caused (collect out) s r
       stable e = clash (l refl) (low_collect (ltb (length out) (length (collected s))) (sym (stable_collect s good out n (eqb-false s.job.stage 1 e)) ∙ q))
-  only_ready n (channelPass c i) k q l = only_channel_pass s (sound_ready s good n) c i k q
-  only_ready n (channelRun c i) k q l = only_channel_run s (sound_ready s good n) c i k q
+  only_ready n (channel_pass c i) k q l = only_channel_pass s (sound_ready s good n) c i k q
+  only_ready n (channel_run c i) k q l = only_channel_run s (sound_ready s good n) c i k q
 
 by_cause : (c : Call) (s : State) (r : Refusal) → refused_with c s ≡ Refused r → (takes c ≡ true → among state_numbers r.number ≡ true) → Caused c s r
 by_cause c s r q l = first (quota_rule c) refl

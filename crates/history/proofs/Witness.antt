@@ -7,7 +7,7 @@ use Prim.Native.Nat.{ℕ}
 use borrow.Author.Tests.{not-true}
 use lib.Dec.{ltb, eqb}
 use lib.ListN.{length}
-use Rattle.history.specs.Call.{Call, load, pass, run, view, figures, collect, channelPass, channelRun, is_load, is_collect, answer_of, refusal_of}
+use Rattle.history.specs.Call.{Call, load, pass, run, view, figures, collect, channel_pass, channel_run, is_load, is_collect, answer_of, refusal_of}
 use Rattle.history.specs.Collect.{collected, collect_verdict, collect_written}
 use Rattle.history.specs.Demand1.{state_numbers, placed}
 use Rattle.history.specs.Source.{Source, from_file, from_three, from_strip, source_verdict}
@@ -67,5 +67,5 @@ passed_on run s = other_says run s refl refl
 passed_on view s = other_says view s refl refl
 passed_on figures s = other_says figures s refl refl
 passed_on (collect out) s = collect_says out s
-passed_on (channelPass q i) s = other_says (channelPass q i) s refl refl
-passed_on (channelRun q i) s = other_says (channelRun q i) s refl refl
+passed_on (channel_pass q i) s = other_says (channel_pass q i) s refl refl
+passed_on (channel_run q i) s = other_says (channel_run q i) s refl refl

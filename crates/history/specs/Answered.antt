@@ -11,7 +11,7 @@ use Rattle.history.specs.declared.Figured.{Figured}
 use Rattle.history.specs.declared.Figured.TheVariants.{Figures}
 use Rattle.history.specs.declared.Passed.{Passed}
 use Rattle.history.specs.declared.Passed.TheVariants.{Changed, Stable, Refused}
-use Rattle.history.specs.Call.{Call, load, pass, run, view, figures, collect, channelPass, channelRun, Answer, loaded, passed, shown, figured, collected, refusing}
+use Rattle.history.specs.Call.{Call, load, pass, run, view, figures, collect, channel_pass, channel_run, Answer, loaded, passed, shown, figured, collected, refusing}
 use Rattle.history.specs.History as book
 use Rattle.history.specs.History.{Entry, History, empty, holds, Lengths, ran, files_of, refused_by}
 use Rattle.history.specs.Lists.{over_steps}
@@ -50,7 +50,7 @@ answered_by (collect out) n empty = refusing (collect out) nothing
 answered_by (collect out) n (holds e) =
     let v = refused_by (collect out) n (holds e) in
     collected (written_of v (files_of e)) (output_of v (files_of e) out)
-answered_by (channelPass q i) n empty = passed (rest_as (refused_by (channelPass q i) n empty) false)
-answered_by (channelPass q i) n (holds e) = passed (rest_as (refused_by (channelPass q i) n (holds e)) (book.passed e).settled)
-answered_by (channelRun q i) n empty = passed (rest_as (refused_by (channelRun q i) n empty) false)
-answered_by (channelRun q i) n (holds e) = passed (rest_as (refused_by (channelRun q i) n (holds e)) (ran e).settled)
+answered_by (channel_pass q i) n empty = passed (rest_as (refused_by (channel_pass q i) n empty) false)
+answered_by (channel_pass q i) n (holds e) = passed (rest_as (refused_by (channel_pass q i) n (holds e)) (book.passed e).settled)
+answered_by (channel_run q i) n empty = passed (rest_as (refused_by (channel_run q i) n empty) false)
+answered_by (channel_run q i) n (holds e) = passed (rest_as (refused_by (channel_run q i) n (holds e)) (ran e).settled)

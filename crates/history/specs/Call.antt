@@ -36,7 +36,7 @@ pub data Call : Type 0 where
   -- a lent output
   collect : List ℕ → Call
   -- the quota that a channel's call is handed, and the channel (02, T-10)
-  channelPass channelRun : Quota → ℕ → Call
+  channel_pass channel_run : Quota → ℕ → Call
 
 pub data Answer : Type 0 where
   loaded : Verdict → Answer
@@ -54,8 +54,8 @@ is_load run = false
 is_load view = false
 is_load figures = false
 is_load (collect out) = false
-is_load (channelPass q i) = false
-is_load (channelRun q i) = false
+is_load (channel_pass q i) = false
+is_load (channel_run q i) = false
 
 abbrev pub is_run : Call → Bool
 is_run (load t x) = false
@@ -64,8 +64,8 @@ is_run run = true
 is_run view = false
 is_run figures = false
 is_run (collect out) = false
-is_run (channelPass q i) = false
-is_run (channelRun q i) = true
+is_run (channel_pass q i) = false
+is_run (channel_run q i) = true
 
 abbrev pub is_collect : Call → Bool
 is_collect (load t x) = false
@@ -74,8 +74,8 @@ is_collect run = false
 is_collect view = false
 is_collect figures = false
 is_collect (collect out) = true
-is_collect (channelPass q i) = false
-is_collect (channelRun q i) = false
+is_collect (channel_pass q i) = false
+is_collect (channel_run q i) = false
 
 unfoldable pub answer_of : Call → State → Answer
 answer_of (load t x) s = loaded (load_verdict t x s)
@@ -84,8 +84,8 @@ answer_of run s = passed (run_of s).answer
 answer_of view s = shown (view_of s) (ready_verdict s)
 answer_of figures s = figured (figures_of s)
 answer_of (collect out) s = collected (collect_written (length out) s) (collect_output out s)
-answer_of (channelPass q i) s = passed (channel_pass_of q i s).answer
-answer_of (channelRun q i) s = passed (channel_run_of q i s).answer
+answer_of (channel_pass q i) s = passed (channel_pass_of q i s).answer
+answer_of (channel_run q i) s = passed (channel_run_of q i s).answer
 
 unfoldable pub state_of : Call → State → State
 state_of (load t x) s = load_state t x s
@@ -94,8 +94,8 @@ state_of run s = (run_of s).state
 state_of view s = s
 state_of figures s = s
 state_of (collect out) s = collect_state (length out) s
-state_of (channelPass q i) s = (channel_pass_of q i s).state
-state_of (channelRun q i) s = (channel_run_of q i s).state
+state_of (channel_pass q i) s = (channel_pass_of q i s).state
+state_of (channel_run q i) s = (channel_run_of q i s).state
 
 abbrev pub refusal_of : Answer → Verdict
 refusal_of (loaded v) = v
@@ -111,5 +111,5 @@ refusing run r = passed (passing.Refused r)
 refusing view r = shown [] (Refused r)
 refusing figures r = figured (figuring.Refused r)
 refusing (collect out) r = collected (writing.Refused r) out
-refusing (channelPass q i) r = passed (passing.Refused r)
-refusing (channelRun q i) r = passed (passing.Refused r)
+refusing (channel_pass q i) r = passed (passing.Refused r)
+refusing (channel_run q i) r = passed (passing.Refused r)

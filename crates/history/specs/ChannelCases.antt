@@ -15,7 +15,7 @@
 use Rattle.std.specs.Prelude.{true, List, [], ◌∷◌, ◌++◌, map, ◌≡◌, refl, ℕ, ◌-◌, ◌^◌, replicate}
 use Rattle.operator.specs.Samples.{ring}
 use Rattle.history.specs.declared.Quota.{Quota}
-use Rattle.history.specs.Call.{load, channelPass, channelRun, answer_of, refusal_of}
+use Rattle.history.specs.Call.{load, channel_pass, channel_run, answer_of, refusal_of}
 use Rattle.history.specs.Cases.{dot_file, seam}
 use Rattle.history.specs.Channel.{channel_pass_of, channel_run_of}
 use Rattle.history.specs.Computing.{computing}
@@ -115,10 +115,10 @@ orders =
 
 -- of one of them: what a pass and a run are refused by, and what is wanted
 abbrev as_pass : Quota × ℕ × State × Refusal → List ℕ
-as_pass c = spoken (refusal_of (answer_of (channelPass c.0 c.1) c.2))
+as_pass c = spoken (refusal_of (answer_of (channel_pass c.0 c.1) c.2))
 
 abbrev as_run : Quota × ℕ × State × Refusal → List ℕ
-as_run c = spoken (refusal_of (answer_of (channelRun c.0 c.1) c.2))
+as_run c = spoken (refusal_of (answer_of (channel_run c.0 c.1) c.2))
 
 abbrev wanted : Quota × ℕ × State × Refusal → List ℕ
 wanted c = spoken (Refused c.3)
@@ -134,8 +134,8 @@ unfolding computing
 uncharged_met = refl
 
 abbrev asked : Move → Fleet → Verdict
-asked (passes i) F = refusal_of (answer_of (channelPass F.quota i) (F.courses i).state)
-asked (runs i) F = refusal_of (answer_of (channelRun F.quota i) (F.courses i).state)
+asked (passes i) F = refusal_of (answer_of (channel_pass F.quota i) (F.courses i).state)
+asked (runs i) F = refusal_of (answer_of (channel_run F.quota i) (F.courses i).state)
 asked (own i c) F = refusal_of (answer_of c (F.courses i).state)
 asked renew F = open_verdict F.quota
 

@@ -16,7 +16,7 @@
 use Rattle.std.specs.Prelude.{true, false, cond, List, [], ◌∷◌, ◌≢◌, ◌≡◌, ℕ, zero, suc, ◌*◌, ◌≤◌, ◌<◌, ltb, eqb, length, drop}
 use Rattle.history.specs.declared.Passed.TheVariants as passed
 use Rattle.history.specs.declared.Quota.{Quota}
-use Rattle.history.specs.Call.{Call, load, pass, run, view, figures, collect, channelPass, channelRun, is_load, is_run, is_collect, answer_of, state_of, refusal_of, refusing}
+use Rattle.history.specs.Call.{Call, load, pass, run, view, figures, collect, channel_pass, channel_run, is_load, is_run, is_collect, answer_of, state_of, refusal_of, refusing}
 use Rattle.history.specs.Channel.{channel_pass_of, channel_run_of}
 use Rattle.history.specs.Collect.{collected}
 use Rattle.history.specs.Lists.{lengths_of}
@@ -66,8 +66,8 @@ quota_rule run = Accepted
 quota_rule view = Accepted
 quota_rule figures = Accepted
 quota_rule (collect out) = Accepted
-quota_rule (channelPass q i) = channel_rule q i
-quota_rule (channelRun q i) = channel_rule q i
+quota_rule (channel_pass q i) = channel_rule q i
+quota_rule (channel_run q i) = channel_rule q i
 
 abbrev pub Stopped : Call → State → Type 0
 Stopped (load t x) s = ⊥
@@ -76,8 +76,8 @@ Stopped run s = (k : ℕ) × Goes k s × Overruns (after_passes k s)
 Stopped view s = ⊥
 Stopped figures s = ⊥
 Stopped (collect out) s = ⊥
-Stopped (channelPass q i) s = (channel_rule q i ≡ Accepted) × (0 < available q i) × Overruns s
-Stopped (channelRun q i) s = (channel_rule q i ≡ Accepted) × ((k : ℕ) × (k < available q i) × Goes k s × Overruns (after_passes k s))
+Stopped (channel_pass q i) s = (channel_rule q i ≡ Accepted) × (0 < available q i) × Overruns s
+Stopped (channel_run q i) s = (channel_rule q i ≡ Accepted) × ((k : ℕ) × (k < available q i) × Goes k s × Overruns (after_passes k s))
 
 -- at stage 1 neither reserve nor pool has a pass left, after the passes that are made before
 abbrev pub Spent : Call → State → Type 0
@@ -87,8 +87,8 @@ Spent run s = ⊥
 Spent view s = ⊥
 Spent figures s = ⊥
 Spent (collect out) s = ⊥
-Spent (channelPass q i) s = (channel_rule q i ≡ Accepted) × (Unsound s → ⊥) × (s.job.stage ≡ 1) × (available q i ≡ 0)
-Spent (channelRun q i) s = (channel_rule q i ≡ Accepted) × (Unsound s → ⊥) × (s.job.stage ≡ 1) × Goes (available q i) s
+Spent (channel_pass q i) s = (channel_rule q i ≡ Accepted) × (Unsound s → ⊥) × (s.job.stage ≡ 1) × (available q i ≡ 0)
+Spent (channel_run q i) s = (channel_rule q i ≡ Accepted) × (Unsound s → ⊥) × (s.job.stage ≡ 1) × Goes (available q i) s
 
 abbrev pub state_numbers : List ℕ
 state_numbers = 14 ∷ 15 ∷ 16 ∷ 17 ∷ 24 ∷ 25 ∷ []
@@ -100,8 +100,8 @@ channel_of run = 0
 channel_of view = 0
 channel_of figures = 0
 channel_of (collect out) = 0
-channel_of (channelPass q i) = i
-channel_of (channelRun q i) = i
+channel_of (channel_pass q i) = i
+channel_of (channel_run q i) = i
 
 abbrev pub placed : Call → ℕ → ℕ
 placed c n = cond (eqb n 24) (channel_of c) 0
@@ -123,8 +123,8 @@ reach run s = pixels s.job
 reach view s = 0
 reach figures s = 0
 reach (collect out) s = 0
-reach (channelPass q i) s = pixels s.job
-reach (channelRun q i) s = pixels s.job
+reach (channel_pass q i) s = pixels s.job
+reach (channel_run q i) s = pixels s.job
 
 pub record Areas (c : Call) (s : State) : Type 0 where
   pub lengths : lengths_of (state_of c s) ≡ lengths_of s

@@ -22,7 +22,7 @@ use Rattle.operator.specs.Pass as operator
 use Rattle.history.specs.declared.Passed.TheVariants.{Changed, Stable}
 use Rattle.history.specs.declared.Quota.{Quota}
 use Rattle.history.specs.Answered.{answered_by}
-use Rattle.history.specs.Call.{Call, load, pass, run, collect, channelPass, channelRun, passed, collected, answer_of, state_of, refusal_of}
+use Rattle.history.specs.Call.{Call, load, pass, run, collect, channel_pass, channel_run, passed, collected, answer_of, state_of, refusal_of}
 use Rattle.history.specs.Channel.{channel_pass_of, channel_run_of}
 use Rattle.history.specs.History.{Entry, empty, holds, Lengths, spends, made, refused_by, barred_by}
 use Rattle.history.specs.Lists.{Course, start, lengths_of, step, play, uncollected, first_of, over_steps}
@@ -87,9 +87,9 @@ pub record RunAsPasses (w : Course) (e : Entry) : Type 0 where
 
 -- 02, T-10: record, areas, history and tally end as after these passes called singly, and the quota with so many passes less
 pub record ChannelAsPasses (w : Course) (e : Entry) (q : Quota) (i : ℕ) : Type 0 where
-  pub pass_singly : step (channelPass q i) w ≡ play (replicate (made 1 q i e) pass) w
+  pub pass_singly : step (channel_pass q i) w ≡ play (replicate (made 1 q i e) pass) w
   pub pass_quota : (channel_pass_of q i w.state).quota ≡ charged_for (spends 1 q i e) q i
-  pub run_singly : step (channelRun q i) w ≡ play (replicate (made (e.width * e.height + 1) q i e) pass) w
+  pub run_singly : step (channel_run q i) w ≡ play (replicate (made (e.width * e.height + 1) q i e) pass) w
   pub run_quota : (channel_run_of q i w.state).quota ≡ charged_for (spends (e.width * e.height + 1) q i e) q i
 
 abbrev pub QuotaBack : Quota → ℕ → State → Type 0
@@ -133,8 +133,8 @@ pub record Rests (img : List ℕ) (s : State) : Type 0 where
   pub pass_answer : answer_of pass s ≡ passed Stable
   pub run_answer : answer_of run s ≡ passed Stable
   -- and every channel's pass and run that its quota lets through
-  pub channel_pass_answer : (q : Quota) (i : ℕ) → refusal_of (answer_of (channelPass q i) s) ≡ Accepted → answer_of (channelPass q i) s ≡ passed Stable
-  pub channel_run_answer : (q : Quota) (i : ℕ) → refusal_of (answer_of (channelRun q i) s) ≡ Accepted → answer_of (channelRun q i) s ≡ passed Stable
+  pub channel_pass_answer : (q : Quota) (i : ℕ) → refusal_of (answer_of (channel_pass q i) s) ≡ Accepted → answer_of (channel_pass q i) s ≡ passed Stable
+  pub channel_run_answer : (q : Quota) (i : ℕ) → refusal_of (answer_of (channel_run q i) s) ≡ Accepted → answer_of (channel_run q i) s ≡ passed Stable
 
 -- a source loaded with the entry's table: accepted, and what it loads is the entry's last image, which stays until a collect is accepted
 pub record Reloads (w : Course) (e : Entry) (x : Source) : Type 0 where

@@ -14,7 +14,7 @@ use Rattle.std.specs.Prelude.{cond, List, [], ◌∷◌, ◌⊎◌, ◌≡◌, �
 use Rattle.operator.specs.Pass as operator
 use Rattle.history.specs.declared.Passed.TheVariants.{Refused}
 use Rattle.history.specs.declared.Quota.{Quota}
-use Rattle.history.specs.Call.{Call, channelPass, channelRun, answer_of, refusal_of}
+use Rattle.history.specs.Call.{Call, channel_pass, channel_run, answer_of, refusal_of}
 use Rattle.history.specs.Channel.{ChannelOutcome, channel_pass_of, channel_run_of}
 use Rattle.history.specs.Demand3.{AfterList, played, lent}
 use Rattle.history.specs.History.{Entry, History, empty, holds, needed, spends}
@@ -62,13 +62,13 @@ unfoldable pub perform : Move → Fleet → Fleet
 perform (passes i) F =
     record {
       quota = (channel_pass_of F.quota i (F.courses i).state).quota;
-      courses = put i (step (channelPass F.quota i) (F.courses i)) F.courses;
+      courses = put i (step (channel_pass F.quota i) (F.courses i)) F.courses;
       spent = put i (F.spent i + spent_by (λ e. 1) F.quota i (F.courses i).history) F.spent;
     }
 perform (runs i) F =
     record {
       quota = (channel_run_of F.quota i (F.courses i).state).quota;
-      courses = put i (step (channelRun F.quota i) (F.courses i)) F.courses;
+      courses = put i (step (channel_run F.quota i) (F.courses i)) F.courses;
       spent = put i (F.spent i + spent_by (λ e. e.width * e.height + 1) F.quota i (F.courses i).history) F.spent;
     }
 perform (own i c) F = record { quota = F.quota; courses = put i (step c (F.courses i)) F.courses; spent = F.spent }
@@ -89,10 +89,10 @@ pub record AfterRound (q : Quota) (a b : ℕ → List ℕ) (F : Fleet) : Type 0 
   pub reserve : (i : ℕ) → channel_rule F.quota i ≡ verdict.Accepted → left_of F.quota i ≡ reserve_of (open_quota q) i - F.spent i
   -- so it can always use it: a pass within it is not refused, nor is a run
   pub usable_pass : (i : ℕ) (e : Entry) → channel_rule F.quota i ≡ verdict.Accepted → (F.courses i).history ≡ holds e
-      → F.spent i < reserve_of (open_quota q) i → refusal_of (answer_of (channelPass F.quota i) (F.courses i).state) ≡ verdict.Accepted
+      → F.spent i < reserve_of (open_quota q) i → refusal_of (answer_of (channel_pass F.quota i) (F.courses i).state) ≡ verdict.Accepted
   pub usable_run : (i : ℕ) (e : Entry) → channel_rule F.quota i ≡ verdict.Accepted → (F.courses i).history ≡ holds e
       → F.spent i + needed (e.width * e.height + 1) e ≤ reserve_of (open_quota q) i
-      → refusal_of (answer_of (channelRun F.quota i) (F.courses i).state) ≡ verdict.Accepted
+      → refusal_of (answer_of (channel_run F.quota i) (F.courses i).state) ≡ verdict.Accepted
   -- what the channels spent, what is left of their reserves, and the pool are the allowance
   pub within_allowance : sum_of (tab (λ k. F.spent (k + 1)) max_channels) + (sum_of F.quota.left + F.quota.pool) ≡ q.allowance
   -- the channels stay, and a new round restores all of it
@@ -121,6 +121,6 @@ pub record Rounds : Type 0 where
   pub unmetered : (q : Quota) (i : ℕ) (s : State) → channel_rule q i ≡ verdict.Accepted → Unmetered q i s
   -- of two quotas with equally many channels: the same refusal, or one of them is 24
   pub only_24_pass : (q q' : Quota) (i : ℕ) (s : State) → q.channels ≡ q'.channels
-      → SameBut24 i (refusal_of (answer_of (channelPass q i) s)) (refusal_of (answer_of (channelPass q' i) s))
+      → SameBut24 i (refusal_of (answer_of (channel_pass q i) s)) (refusal_of (answer_of (channel_pass q' i) s))
   pub only_24_run : (q q' : Quota) (i : ℕ) (s : State) → q.channels ≡ q'.channels
-      → SameBut24 i (refusal_of (answer_of (channelRun q i) s)) (refusal_of (answer_of (channelRun q' i) s))
+      → SameBut24 i (refusal_of (answer_of (channel_run q i) s)) (refusal_of (answer_of (channel_run q' i) s))

@@ -21,7 +21,7 @@ use Rattle.std.specs.Prelude.{Bool, true, false, cond, not, List, [], ◌∷◌,
 use Rattle.operator.specs.Image.{differs}
 use Rattle.operator.specs.Pass as operator
 use Rattle.history.specs.declared.Quota.{Quota}
-use Rattle.history.specs.Call.{Call, load, pass, run, view, figures, collect, channelPass, channelRun}
+use Rattle.history.specs.Call.{Call, load, pass, run, view, figures, collect, channel_pass, channel_run}
 use Rattle.history.specs.Channel.{spent_rule}
 use Rattle.history.specs.Load.{areas_rule}
 use Rattle.history.specs.Quota.{channel_rule, available}
@@ -133,10 +133,10 @@ refused_by figures n (holds e) = Accepted
 refused_by (collect out) n empty = Refused (refusal 16 0)
 refused_by (collect out) n (holds e) =
     judge (refuse_if (not e.settled) 17 0 ∷ refuse_if (ltb (length out) (length (files_of e))) 13 0 ∷ [])
-refused_by (channelPass q i) n empty = judge (channel_rule q i ∷ Refused (refusal 16 0) ∷ [])
-refused_by (channelPass q i) n (holds e) = judge (channel_rule q i ∷ spent_rule q i (needed 1 e) ∷ [])
-refused_by (channelRun q i) n empty = judge (channel_rule q i ∷ Refused (refusal 16 0) ∷ [])
-refused_by (channelRun q i) n (holds e) = judge (channel_rule q i ∷ spent_rule q i (needed (e.width * e.height + 1) e) ∷ [])
+refused_by (channel_pass q i) n empty = judge (channel_rule q i ∷ Refused (refusal 16 0) ∷ [])
+refused_by (channel_pass q i) n (holds e) = judge (channel_rule q i ∷ spent_rule q i (needed 1 e) ∷ [])
+refused_by (channel_run q i) n empty = judge (channel_rule q i ∷ Refused (refusal 16 0) ∷ [])
+refused_by (channel_run q i) n (holds e) = judge (channel_rule q i ∷ spent_rule q i (needed (e.width * e.height + 1) e) ∷ [])
 
 -- a channel's run that 24 stops on its way has made passes
 unfoldable pub barred_by : Call → Lengths → History → Verdict
@@ -146,9 +146,9 @@ barred_by run n H = refused_by run n H
 barred_by view n H = refused_by view n H
 barred_by figures n H = refused_by figures n H
 barred_by (collect out) n H = refused_by (collect out) n H
-barred_by (channelPass q i) n H = refused_by (channelPass q i) n H
-barred_by (channelRun q i) n empty = refused_by (channelRun q i) n empty
-barred_by (channelRun q i) n (holds e) = channel_rule q i
+barred_by (channel_pass q i) n H = refused_by (channel_pass q i) n H
+barred_by (channel_run q i) n empty = refused_by (channel_run q i) n empty
+barred_by (channel_run q i) n (holds e) = channel_rule q i
 
 unfoldable pub accepted : Call → History → History
 accepted (load t x) H = holds (entered t x)
@@ -159,10 +159,10 @@ accepted run (holds e) = holds (ran e)
 accepted view H = H
 accepted figures H = H
 accepted (collect out) H = empty
-accepted (channelPass q i) empty = empty
-accepted (channelPass q i) (holds e) = holds (passed e)
-accepted (channelRun q i) empty = empty
-accepted (channelRun q i) (holds e) = holds (passed_for (made (e.width * e.height + 1) q i e) e)
+accepted (channel_pass q i) empty = empty
+accepted (channel_pass q i) (holds e) = holds (passed e)
+accepted (channel_run q i) empty = empty
+accepted (channel_run q i) (holds e) = holds (passed_for (made (e.width * e.height + 1) q i e) e)
 
 abbrev pub after_as : Verdict → Call → History → History
 after_as Accepted c H = accepted c H

@@ -10,7 +10,7 @@
 --     over_steps f e     f from image to next image, summed over the steps of an entry; sum_steps f img earlier: over those of a row
 -- Assumes nothing.
 use Rattle.std.specs.Prelude.{Bool, true, not, ◌&&◌, List, [], ◌∷◌, ℕ, ◌+◌, ◌*◌, length}
-use Rattle.history.specs.Call.{Call, load, pass, run, view, figures, collect, channelPass, channelRun, is_collect, answer_of, state_of, refusal_of}
+use Rattle.history.specs.Call.{Call, load, pass, run, view, figures, collect, channel_pass, channel_run, is_collect, answer_of, state_of, refusal_of}
 use Rattle.history.specs.History.{Entry, History, empty, holds, Lengths, passes_of_run, made, barred_by, after}
 use Rattle.history.specs.State.{State, empty_job}
 use Rattle.verdict.specs.declared.Verdict.{Verdict}
@@ -36,9 +36,9 @@ tallied run (holds e) n = n + passes_of_run (e.width * e.height + 1) e
 tallied view H n = n
 tallied figures H n = n
 tallied (collect out) H n = 0
-tallied (channelPass q i) H n = n + 1
-tallied (channelRun q i) empty n = n
-tallied (channelRun q i) (holds e) n = n + made (e.width * e.height + 1) q i e
+tallied (channel_pass q i) H n = n + 1
+tallied (channel_run q i) empty n = n
+tallied (channel_run q i) (holds e) n = n + made (e.width * e.height + 1) q i e
 
 abbrev pub tally_as : Verdict → Call → History → ℕ → ℕ
 tally_as Accepted c H n = tallied c H n

@@ -154,10 +154,10 @@ module _ (q : Quota) (i : ℕ) (s : State) (rule : channel_rule q i ≡ Accepted
   unfolding metering made
   for_none k a =
       let none : min (available q i) (suc k) ≡ 0 = omega (arith, a) in
-      let zero-spent : s.job.passes - s.job.passes + 0 ≡ 0 = omega arith in
+      let zero_spent : s.job.passes - s.job.passes + 0 ≡ 0 = omega arith in
       run_ended q i s k (none_left q i s rule (ready_accepted r) (staged s r h) a) (λ y. let x : ◌≡◌ {A = ℕ} 0 1 = cc in omega arith)
       ∙ rw (none, lt-ltb 0 (suc k) (omega arith))
-      (sym (settled_by true q i s.job.passes (record { answer = passed.Changed; state = s }) refl zero-spent))
+      (sym (settled_by true q i s.job.passes (record { answer = passed.Changed; state = s }) refl zero_spent))
 
   module _ (a : 0 < available q i) where
     paid_pass : channel_pass_of q i s ≡ record { answer = (pass_loaded s).answer; state = (pass_loaded s).state; quota = paid (pass_loaded s).answer 1 q i }
