@@ -46,7 +46,7 @@ impl<'a> Reader<'a> {
     }
 }
 
-// The number at a position of the bytes, through the reader. Its contract says nothing of the reader, so its callers need no walk.
+// The number at a position of the bytes, through the reader. Its contract says nothing of the reader.
 pub fn read_at(bytes: &[u8], at: usize) -> NumberRead
     ensures { result ≡ number_at bytes.now at }
 {

@@ -3,24 +3,12 @@ use mathlib.Core.Path.{sym, ◌∙◌}
 use Rattle.job.proofs.Loads.{admit_unsound, admit_full, admit_table}
 use Rattle.job.proofs.admit.Goals as goal
 
-pub is_unsound-requires : goal.is_unsound-requires
-is_unsound-requires c = tt
-
-pub refused-requires : goal.refused-requires
-refused-requires c = tt
-
 pub returns-then-is_unsound : goal.returns-then-is_unsound
 returns-then-is_unsound c = c.refused.ensures ∙ admit_unsound _ _ (sym c.is_unsound.ensures ∙ c.if-is_unsound.true)
-
-pub refused-requires-then-job-ne-EMPTY : goal.refused-requires-then-job-ne-EMPTY
-refused-requires-then-job-ne-EMPTY c = tt
 
 pub returns-then-job-ne-EMPTY : goal.returns-then-job-ne-EMPTY
 returns-then-job-ne-EMPTY c =
     c.refused-then-job-ne-EMPTY.ensures ∙ admit_full _ _ (sym c.is_unsound.ensures ∙ c.if-is_unsound.false) c.if-job-ne-EMPTY.true
-
-pub check-requires : goal.check-requires
-check-requires c = tt
 
 pub returns : goal.returns
 returns c =

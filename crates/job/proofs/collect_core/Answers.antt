@@ -5,14 +5,8 @@ use Rattle.job.proofs.Collects.{same_pixels, unready, unsettled, written, unwrit
 use Rattle.history.proofs.Ready.{accepted_ready}
 use Rattle.job.proofs.collect_core.Goals as goal
 
-pub ready-requires : goal.ready-requires
-ready-requires c = tt
-
 pub returns-in-Refused : goal.returns-in-Refused
 returns-in-Refused c = unready _ _ (sym c.ready.ensures ∙ c.in-Refused.is)
-
-pub refusal_of-requires : goal.refusal_of-requires
-refusal_of-requires c = tt
 
 pub returns-then-job-eq-LOADED : goal.returns-then-job-eq-LOADED
 returns-then-job-eq-LOADED c =
@@ -22,12 +16,6 @@ pub image-requires : goal.image-requires
 image-requires c =
     let ready = accepted_ready _ (sym c.ready.ensures ∙ c.in_default.is) in
     (ready.first, ready.second)
-
-pub write-answer-requires : goal.write-answer-requires
-write-answer-requires c = tt
-
-pub empty-requires : goal.empty-requires
-empty-requires c = tt
 
 pub returns-in-Length : goal.returns-in-Length
 returns-in-Length c =

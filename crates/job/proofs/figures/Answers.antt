@@ -9,9 +9,6 @@ use Rattle.history.proofs.Ready.{accepted_ready, ready_image, ready_small, ready
 use Rattle.job.proofs.Views.{figures_refused, figures_shown, black_of_lem, few_black}
 use Rattle.job.proofs.figures.Goals as goal
 
-pub ready-requires : goal.ready-requires
-ready-requires c = tt
-
 pub returns-in-Refused : goal.returns-in-Refused
 returns-in-Refused c = figures_refused _ (sym c.ready.ensures ∙ c.in-Refused.is)
 

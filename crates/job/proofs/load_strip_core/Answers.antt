@@ -6,26 +6,11 @@ use Rattle.job.proofs.Areas.{part_length}
 use Rattle.job.proofs.Loads.{not_admitted, strip_parts, entered}
 use Rattle.job.proofs.load_strip_core.Goals as goal
 
-pub admit-requires : goal.admit-requires
-admit-requires c = tt
-
 pub returns-in-Refused : goal.returns-in-Refused
 returns-in-Refused c = not_admitted _ (from_strip _ _) _ (sym c.admit.ensures ∙ c.in-Refused.is)
 
-pub common-both-requires : goal.common-both-requires
-common-both-requires c = tt
-
 pub slice_bounds-read-end-2 : goal.slice_bounds-read-end-2
 slice_bounds-read-end-2 c = part_length _ _ ((search rules))
-
-pub read-read-requires : goal.read-read-requires
-read-read-requires c = tt
-
-pub kept-requires : goal.kept-requires
-kept-requires c = tt
-
-pub enter-requires : goal.enter-requires
-enter-requires c = tt
 
 pub returns : goal.returns
 returns c =

@@ -6,24 +6,9 @@ use Rattle.history.proofs.Ready.{accepted_ready}
 use Rattle.job.proofs.Runs.{made_one}
 use Rattle.job.proofs.pass_core.Goals as goal
 
-pub ready-requires : goal.ready-requires
-ready-requires c = tt
-
-pub shape_of-first-in-Refused : goal.shape_of-first-in-Refused
-shape_of-first-in-Refused c = refl
-
-pub shape_of-second-in-Refused : goal.shape_of-second-in-Refused
-shape_of-second-in-Refused c = refl
-
 pub returns-in-Refused : goal.returns-in-Refused
 returns-in-Refused c =
     rw (pass_refused _ (sym c.ready.ensures ∙ c.in-Refused.is)) (refl, refl, refl)
-
-pub shape_of-first-then-job-eq-STABLE : goal.shape_of-first-then-job-eq-STABLE
-shape_of-first-then-job-eq-STABLE c = refl
-
-pub shape_of-second-then-job-eq-STABLE : goal.shape_of-second-then-job-eq-STABLE
-shape_of-second-then-job-eq-STABLE c = refl
 
 pub returns-then-job-eq-STABLE : goal.returns-then-job-eq-STABLE
 returns-then-job-eq-STABLE c =

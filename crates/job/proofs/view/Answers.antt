@@ -5,9 +5,6 @@ use Rattle.history.proofs.Ready.{accepted_ready}
 use Rattle.job.proofs.Views.{view_refused, view_shown}
 use Rattle.job.proofs.view.Goals as goal
 
-pub ready-requires : goal.ready-requires
-ready-requires c = tt
-
 pub returns-in-Refused : goal.returns-in-Refused
 returns-in-Refused c = view_refused _ (sym c.ready.ensures ∙ c.in-Refused.is)
 

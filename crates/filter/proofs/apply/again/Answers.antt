@@ -8,9 +8,6 @@ use Rattle.filter.specs.Applied.{again_verdict}
 use Rattle.filter.proofs.PassCodeApplied.{fits, again_refused, again_filled}
 use Rattle.filter.proofs.apply.again.Goals as goal
 
-pub check-checked-requires : goal.check-checked-requires
-check-checked-requires c = tt
-
 pub returns-in-Refused : goal.returns-in-Refused
 returns-in-Refused c = again_refused _ _ _ _ _ (sym c.check-checked.ensures ∙ c.in-Refused.is)
 

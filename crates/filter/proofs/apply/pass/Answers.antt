@@ -3,14 +3,8 @@ use mathlib.Core.Path.{sym, ◌∙◌}
 use Rattle.filter.proofs.PassCodeApplied.{pass_refused, pass_again}
 use Rattle.filter.proofs.apply.pass.Goals as goal
 
-pub check-requires : goal.check-requires
-check-requires c = tt
-
 pub returns-in-Refused : goal.returns-in-Refused
 returns-in-Refused c = pass_refused _ _ _ _ _ (sym c.check.ensures ∙ c.in-Refused.is)
-
-pub again-requires : goal.again-requires
-again-requires c = tt
 
 pub returns : goal.returns
 returns c =

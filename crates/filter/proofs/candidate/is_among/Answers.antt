@@ -9,7 +9,7 @@ use Rattle.filter.proofs.candidate.is_among.Goals as goal
 
 pub returns-then-pairs-i-2 : goal.returns-then-pairs-i-2
 returns-then-pairs-i-2 c =
-    λ e. among_at _ _ c.loop-i.i (omega arith) (omega arith) (omega arith) c.if-pairs-i.true (eqb-true _ _ c.if-pairs-i-2.true-raw)
+    λ e. among_at _ _ c.loop-i.i (omega arith) (omega arith) (omega arith) c.if-pairs-i.true (c.if-pairs-i-2.true)
 
 pub returns : goal.returns
 returns c = λ e. clash e refl

@@ -34,14 +34,14 @@ loop-left-smaller-then-not-some_matches c = omega (arith, lowest _ c.loop-left-t
 
 pub loop-left-preserved-then-not-some_matches : goal.loop-left-preserved-then-not-some_matches
 loop-left-preserved-then-not-some_matches c =
-    judging_no c.loop-left.invariant (lowest _ c.loop-left-test.true c.loop-left.invariant.fits) (held_at _ _ _ _ c.gather-win.ensures c.some_matches.ensures ∙ not-true _ c.if-not-some_matches.true-raw)
+    judging_no c.loop-left.invariant (lowest _ c.loop-left-test.true c.loop-left.invariant.fits) (held_at _ _ _ _ c.gather-win.ensures c.some_matches.ensures ∙ c.if-not-some_matches.true)
 
 pub loop-left-smaller : goal.loop-left-smaller
 loop-left-smaller c = omega (arith, lowest _ c.loop-left-test.true c.loop-left.invariant.fits)
 
 pub loop-left-preserved : goal.loop-left-preserved
 loop-left-preserved c =
-    judging_yes c.loop-left.invariant (lowest _ c.loop-left-test.true c.loop-left.invariant.fits) (held_at _ _ _ _ c.gather-win.ensures c.some_matches.ensures ∙ not-false _ c.if-not-some_matches.false-raw)
+    judging_yes c.loop-left.invariant (lowest _ c.loop-left-test.true c.loop-left.invariant.fits) (held_at _ _ _ _ c.gather-win.ensures c.some_matches.ensures ∙ c.if-not-some_matches.false)
 
 pub returns : goal.returns
 returns c = judging_all c.loop-left.invariant c.loop-left-test.false

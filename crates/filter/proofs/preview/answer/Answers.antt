@@ -7,9 +7,6 @@ use Rattle.operator.specs.Preview.{pattern, five_or_more}
 use Rattle.filter.proofs.PreviewLaws.{nine_pattern}
 use Rattle.filter.proofs.preview.answer.Goals as goal
 
-pub answers-table-requires : goal.answers-table-requires
-answers-table-requires c = tt
-
 pub bounds-table-nine : goal.bounds-table-nine
 bounds-table-nine c =
     let nine : c.three.result + 8 * c.three-2.result + 64 * c.three-3.result

@@ -14,9 +14,6 @@ overflow_mul-width c =
     let accepted : pixel_verdict c.args.width c.args.height c.args.pixels.now ≡ Accepted = sym c.check_pixels-checked.ensures ∙ c.in_default.is in
     omega (arith, checked_area _ _ _ accepted)
 
-pub refused-requires : goal.refused-requires
-refused-requires c = tt
-
 pub returns-then-area-width : goal.returns-then-area-width
 returns-then-area-width c =
     let accepted : pixel_verdict c.args.width c.args.height c.args.pixels.now ≡ Accepted = sym c.check_pixels-checked.ensures ∙ c.in_default.is in

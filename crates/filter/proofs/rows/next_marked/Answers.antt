@@ -9,11 +9,11 @@ pub loop-row-init : goal.loop-row-init
 loop-row-init c = (omega arith, omega arith, range_none _ _)
 
 pub loop-row-preserved : goal.loop-row-preserved
-loop-row-preserved c = (omega arith, omega arith, range_more _ _ _ c.loop-row.invariant.2 (eqb-true _ _ c.if-marks-row-eq0.true-raw))
+loop-row-preserved c = (omega arith, omega arith, range_more _ _ _ c.loop-row.invariant.2 c.if-marks-row-eq0.true)
 
 pub returns-else-marks-row-eq0 : goal.returns-else-marks-row-eq0
 returns-else-marks-row-eq0 c =
-    record { from = c.loop-row.invariant.0; within = c.loop-row.invariant.1; skipped = c.loop-row.invariant.2; found = λ _. eqb-false _ _ c.if-marks-row-eq0.false-raw }
+    record { from = c.loop-row.invariant.0; within = c.loop-row.invariant.1; skipped = c.loop-row.invariant.2; found = λ _. c.if-marks-row-eq0.false }
 
 pub returns-after-loop-row : goal.returns-after-loop-row
 returns-after-loop-row c =

@@ -16,7 +16,7 @@ loop-row-init c =
 
 pub loop-row-preserved : goal.loop-row-preserved
 loop-row-preserved c =
-    (omega arith, omega arith, c.loop-row.invariant.2, c.loop-row.invariant.3, range_more _ _ _ c.loop-row.invariant.4 (eqb-false _ _ (not-true _ c.if-marks-row-ne0.true-raw)))
+    (omega arith, omega arith, c.loop-row.invariant.2, c.loop-row.invariant.3, range_more _ _ _ c.loop-row.invariant.4 c.if-marks-row-ne0.true)
 
 pub returns-else-marks-row-ne0 : goal.returns-else-marks-row-ne0
 returns-else-marks-row-ne0 c =

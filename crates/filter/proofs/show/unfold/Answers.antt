@@ -21,7 +21,7 @@ bounds-out-to-in-loop-k-3 c = simp length-set (omega arith)
 
 pub loop-k-preserved : goal.loop-k-preserved
 loop-k-preserved c =
-    let byte = c.shared_slice_known-1.given (c.args.from + c.loop-k.k) in
+    let byte = c.type_inv.plane (c.args.from + c.loop-k.k) in
     (unfold_turn _ c.loop-k.invariant.0 (omega arith) (omega arith) refl (omega arith), omega arith)
 
 pub returns : goal.returns

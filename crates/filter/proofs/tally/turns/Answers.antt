@@ -5,7 +5,7 @@ use Rattle.filter.proofs.tally.turns.Goals as goal
 use Rattle.filter.proofs.tally.turns.Goals.{else-a-source-via-then-a-source+else-b-target, else-a-source-via-else-a-source}
 
 pub returns-then-b-target : goal.returns-then-b-target
-returns-then-b-target c = (simp (eq-eqb _ _ c.if-a-source.true, c.if-b-target.true-raw), omega arith)
+returns-then-b-target c = (simp (eq-eqb _ _ c.if-a-source.true, eq-eqb _ _ c.if-b-target.true), omega arith)
 
 pub returns-else-a-source : goal.returns-else-a-source
 returns-else-a-source c = (

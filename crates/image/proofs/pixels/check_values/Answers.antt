@@ -10,9 +10,6 @@ loop-row-init c = clean_none _ _
 pub row_exceeds-requires : goal.row_exceeds-requires
 row_exceeds-requires c = omega (arith, clean_fits c.loop-row.invariant c.loop-row-test.true)
 
-pub refused-requires : goal.refused-requires
-refused-requires c = tt
-
 pub returns-then-row_exceeds : goal.returns-then-row_exceeds
 returns-then-row_exceeds c =
     c.refused.ensures

@@ -7,9 +7,6 @@ use Rattle.image.proofs.unpack.fill.Goals as goal
 pub overflow_mul-width : goal.overflow_mul-width
 overflow_mul-width c = omega (arith, pixels_few c.requires.0)
 
-pub refusal_of-requires : goal.refusal_of-requires
-refusal_of-requires c = tt
-
 pub returns-then-area-width : goal.returns-then-area-width
 returns-then-area-width c = rw c.refusal_of.ensures (fill_short _ _ _ _ c.if-area-width.true)
 

@@ -4,21 +4,9 @@ use Rattle.history.proofs.ChannelPasses.{channel_refused}
 use Rattle.job.proofs.ChannelRuns.{channel_stable, free_rule, free_ready, channel_metered}
 use Rattle.job.proofs.channel.pass_core.Goals as goal
 
-pub shape_of-first-in-Refused : goal.shape_of-first-in-Refused
-shape_of-first-in-Refused c = refl
-
-pub shape_of-second-in-Refused : goal.shape_of-second-in-Refused
-shape_of-second-in-Refused c = refl
-
 pub returns-in-Refused : goal.returns-in-Refused
 returns-in-Refused c =
     rw (c.unpaid.ensures, channel_refused _ _ _ (sym c.admit.ensures ∙ c.in-Refused.is)) (refl, refl, refl)
-
-pub shape_of-first-then-job-eq-STABLE : goal.shape_of-first-then-job-eq-STABLE
-shape_of-first-then-job-eq-STABLE c = refl
-
-pub shape_of-second-then-job-eq-STABLE : goal.shape_of-second-then-job-eq-STABLE
-shape_of-second-then-job-eq-STABLE c = refl
 
 pub returns-then-job-eq-STABLE : goal.returns-then-job-eq-STABLE
 returns-then-job-eq-STABLE c =

@@ -19,7 +19,7 @@ is_size-requires c =
 pub returns-then-not-is_size : goal.returns-then-not-is_size
 returns-then-not-is_size c =
     let accepted : shape_verdict c.args.job.strip ≡ Accepted = sym c.check_shape.ensures ∙ c.in_default.is in
-    bad_size_lem _ accepted (sym (ap not c.is_size.ensures) ∙ c.if-not-is_size.true-raw)
+    bad_size_lem _ accepted (sym (ap not c.is_size.ensures) ∙ ap not c.if-not-is_size.true)
 
 pub any_past-requires : goal.any_past-requires
 any_past-requires c =
@@ -30,9 +30,9 @@ any_past-requires c =
 pub returns-then-any_past : goal.returns-then-any_past
 returns-then-any_past c =
     let accepted : shape_verdict c.args.job.strip ≡ Accepted = sym c.check_shape.ensures ∙ c.in_default.is in
-    bad_past _ accepted (sym (ap not c.is_size.ensures) ∙ c.if-not-is_size.false-raw) (sym c.any_past.ensures ∙ c.if-any_past.true)
+    bad_past _ accepted (sym (ap not c.is_size.ensures) ∙ ap not c.if-not-is_size.false) (sym c.any_past.ensures ∙ c.if-any_past.true)
 
 pub returns : goal.returns
 returns c =
     let accepted : shape_verdict c.args.job.strip ≡ Accepted = sym c.check_shape.ensures ∙ c.in_default.is in
-    ap not c.are_counts.ensures ∙ bad_counts _ accepted (sym (ap not c.is_size.ensures) ∙ c.if-not-is_size.false-raw) (sym c.any_past.ensures ∙ c.if-any_past.false)
+    ap not c.are_counts.ensures ∙ bad_counts _ accepted (sym (ap not c.is_size.ensures) ∙ ap not c.if-not-is_size.false) (sym c.any_past.ensures ∙ c.if-any_past.false)

@@ -12,9 +12,6 @@ pub returns-then-are_bad : goal.returns-then-are_bad
 unfolding inconsistent
 returns-then-are_bad c = simp (sym c.are_bad.ensures ∙ c.if-are_bad.true)
 
-pub check-requires : goal.check-requires
-check-requires c = tt
-
 pub returns-in-Refused : goal.returns-in-Refused
 unfolding inconsistent
 returns-in-Refused c =
@@ -43,9 +40,6 @@ returns-then-second-pixels c =
       lt-ltb _ _ c.if-second-pixels.true,
     )
 
-pub any_above_one-requires : goal.any_above_one-requires
-any_above_one-requires c = tt
-
 pub returns-then-any_above_one : goal.returns-then-any_above_one
 returns-then-any_above_one c =
     stained _ (sym c.are_bad.ensures ∙ c.if-are_bad.false) (sym c.check.ensures ∙ c.in_default.is)
@@ -55,9 +49,6 @@ pub returns-then-pixels-job : goal.returns-then-pixels-job
 returns-then-pixels-job c =
     many_passes _ (sym c.are_bad.ensures ∙ c.if-are_bad.false) (sym c.check.ensures ∙ c.in_default.is)
     c.if-first-pixels.false c.if-second-pixels.false (pixels_seen c.image.ensures c.any_above_one.ensures ∙ c.if-any_above_one.false) c.if-pixels-job.true
-
-pub is_sum_above-requires : goal.is_sum_above-requires
-is_sum_above-requires c = tt
 
 pub returns : goal.returns
 returns c =

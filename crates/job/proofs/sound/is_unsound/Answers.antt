@@ -8,15 +8,9 @@ pub returns-then-stage-gt-STABLE : goal.returns-then-stage-gt-STABLE
 unfolding unsound
 returns-then-stage-gt-STABLE c = simp (lt-ltb _ _ c.if-stage-gt-STABLE.true)
 
-pub is_nonzero-requires : goal.is_nonzero-requires
-is_nonzero-requires c = tt
-
 pub returns-then-stage-eq-EMPTY : goal.returns-then-stage-eq-EMPTY
 unfolding unsound
 returns-then-stage-eq-EMPTY c = simp (le-ltb _ _ c.if-stage-gt-STABLE.false, eq-eqb _ _ c.if-stage-eq-EMPTY.true, c.is_nonzero.ensures)
-
-pub is_inconsistent-requires : goal.is_inconsistent-requires
-is_inconsistent-requires c = tt
 
 pub returns : goal.returns
 unfolding unsound

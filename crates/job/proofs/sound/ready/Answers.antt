@@ -5,18 +5,9 @@ use borrow.Author.Tests.{eq-eqb, ne_eqb}
 use Rattle.history.specs.State.{ready_verdict}
 use Rattle.job.proofs.sound.ready.Goals as goal
 
-pub is_unsound-requires : goal.is_unsound-requires
-is_unsound-requires c = tt
-
-pub refused-requires : goal.refused-requires
-refused-requires c = tt
-
 pub returns-then-is_unsound : goal.returns-then-is_unsound
 unfolding ready_verdict
 returns-then-is_unsound c = simp (c.refused.ensures, sym c.is_unsound.ensures ∙ c.if-is_unsound.true)
-
-pub refused-requires-then-job-eq-EMPTY : goal.refused-requires-then-job-eq-EMPTY
-refused-requires-then-job-eq-EMPTY c = tt
 
 pub returns-then-job-eq-EMPTY : goal.returns-then-job-eq-EMPTY
 unfolding ready_verdict

@@ -2,9 +2,6 @@
 -- Assumes nothing.
 use Rattle.job.proofs.step.conclude.Goals as goal
 
-pub refusal_of-requires : goal.refusal_of-requires
-refusal_of-requires c = tt
-
 pub returns-in-Stable : goal.returns-in-Stable
 returns-in-Stable c = rw (c.in-Stable.is, c.summed-after.ensures)
 

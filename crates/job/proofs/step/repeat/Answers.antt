@@ -12,12 +12,6 @@ use Rattle.job.proofs.step.repeat.Goals as goal
 pub allow-budget-requires : goal.allow-budget-requires
 allow-budget-requires c = (ready_small c.requires.0, c.requires.0.passes, c.requires.0.counts)
 
-pub repeat-repeated-requires : goal.repeat-repeated-requires
-repeat-repeated-requires c = tt
-
-pub of_one-requires : goal.of_one-requires
-of_one-requires c = tt
-
 pub conclude-requires : goal.conclude-requires
 conclude-requires c =
     let added_places : length c.args.job.counts.added ≡ max_parts = search rules in
@@ -25,12 +19,6 @@ conclude-requires c =
     let one : One c.args.job = ready_one c.requires.0 c.requires.2 added_places removed_places in
     rw c.of_one.ensures
     (fits c.requires.0 c.requires.1 c.requires.2 one _ (holds_even c.requires.0 c.if-job-eq0.true) (rw c.allow-budget.ensures at c.repeat-repeated.ensures.0))
-
-pub repeat-repeated-requires-else-job-eq0 : goal.repeat-repeated-requires-else-job-eq0
-repeat-repeated-requires-else-job-eq0 c = tt
-
-pub of_one-requires-else-job-eq0 : goal.of_one-requires-else-job-eq0
-of_one-requires-else-job-eq0 c = tt
 
 pub conclude-requires-else-job-eq0 : goal.conclude-requires-else-job-eq0
 conclude-requires-else-job-eq0 c =

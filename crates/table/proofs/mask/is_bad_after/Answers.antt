@@ -12,9 +12,9 @@ returns-then-is_barred c = simp (sym c.is_barred.ensures ∙ c.if-is_barred.true
 pub returns-then-not-is_valid : goal.returns-then-not-is_valid
 unfolding bad_after
 returns-then-not-is_valid c =
-    simp (sym c.is_barred.ensures ∙ c.if-is_barred.false, ap not (sym c.is_valid.ensures) ∙ c.if-not-is_valid.true-raw)
+    simp (sym c.is_barred.ensures ∙ c.if-is_barred.false, sym c.is_valid.ensures ∙ c.if-not-is_valid.true)
 
 pub returns : goal.returns
 unfolding bad_after
 returns c =
-    simp (sym c.is_barred.ensures ∙ c.if-is_barred.false, ap not (sym c.is_valid.ensures) ∙ c.if-not-is_valid.false-raw)
+    simp (sym c.is_barred.ensures ∙ c.if-is_barred.false, sym c.is_valid.ensures ∙ c.if-not-is_valid.false)

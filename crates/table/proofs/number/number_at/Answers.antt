@@ -30,7 +30,7 @@ pub returns-then-bytes-last-eq0 : goal.returns-then-bytes-last-eq0
 unfolding number_at
 returns-then-bytes-last-eq0 c =
     number_zero _ _ c.more_at-more.ensures c.if-more-ge-MAX_GROUPS.false
-    (simp length-drop (omega arith)) (omega arith) (rw get_or-drop (eqb-true _ _ c.if-bytes-last-eq0.true-raw))
+    (simp length-drop (omega arith)) (omega arith) (rw get_or-drop (c.if-bytes-last-eq0.true))
 
 pub returns : goal.returns
 unfolding number_at

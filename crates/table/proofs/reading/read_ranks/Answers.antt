@@ -9,34 +9,34 @@ use Rattle.table.proofs.Parts.{ranks_single, ranks_number, ranks_said, ranks_rea
 use Rattle.table.proofs.reading.read_ranks.Goals as goal
 
 pub read_persistents-requires : goal.read_persistents-requires
-read_persistents-requires c = ranks_single c.requires (not-true _ c.if-not-more.true-raw)
+read_persistents-requires c = ranks_single c.requires c.if-not-more.true
 
 pub returns-then-not-more : goal.returns-then-not-more
 returns-then-not-more c =
     c.read_persistents.ensures
-    ∙ read_next _ (ranks_rules _) (drop 4 (file_parts _)) (single_judged _ (sym (not-true _ c.if-not-more.true-raw) ∙ c.requires.form))
+    ∙ read_next _ (ranks_rules _) (drop 4 (file_parts _)) (single_judged _ (sym c.if-not-more.true ∙ c.requires.form))
 
 pub returns-then-is_bad_ranks : goal.returns-then-is_bad_ranks
 returns-then-is_bad_ranks c =
     c.refused_at-then-is_bad_ranks.ensures
     ∙ read_part _ (ranks_rules _) (drop 4 (file_parts _))
-    (ranks_said c.requires (not-false _ c.if-not-more.false-raw) (sym c.read_at.ensures ∙ c.in-Number.is)
+    (ranks_said c.requires c.if-not-more.false (sym c.read_at.ensures ∙ c.in-Number.is)
     (sym c.is_bad_ranks.ensures ∙ c.if-is_bad_ranks.true))
 
 pub read_persistents-requires-in-Number : goal.read_persistents-requires-in-Number
 read_persistents-requires-in-Number c =
-    ranks_read c.requires (not-false _ c.if-not-more.false-raw) (sym c.read_at.ensures ∙ c.in-Number.is)
+    ranks_read c.requires c.if-not-more.false (sym c.read_at.ensures ∙ c.in-Number.is)
     (sym c.is_bad_ranks.ensures ∙ c.if-is_bad_ranks.false)
 
 pub returns-in-Refused : goal.returns-in-Refused
 returns-in-Refused c =
     c.refused_at.ensures
     ∙ read_part _ (ranks_rules _) (drop 4 (file_parts _))
-    (ranks_number c.requires (not-false _ c.if-not-more.false-raw) (sym c.read_at.ensures ∙ c.in-Refused.is))
+    (ranks_number c.requires c.if-not-more.false (sym c.read_at.ensures ∙ c.in-Refused.is))
 
 pub returns-else-is_bad_ranks : goal.returns-else-is_bad_ranks
 returns-else-is_bad_ranks c =
     c.read_persistents-in-Number.ensures
     ∙ read_next _ (ranks_rules _) (drop 4 (file_parts _))
-    (ranks_said c.requires (not-false _ c.if-not-more.false-raw) (sym c.read_at.ensures ∙ c.in-Number.is)
+    (ranks_said c.requires c.if-not-more.false (sym c.read_at.ensures ∙ c.in-Number.is)
     (sym c.is_bad_ranks.ensures ∙ c.if-is_bad_ranks.false))

@@ -11,9 +11,6 @@ use Rattle.table.proofs.writing.write_checked.Goals as goal
 pub file_length-length-requires : goal.file_length-length-requires
 file_length-length-requires c = let w = accepted_table _ c.requires in (w.count_most, w.ranks_most)
 
-pub refusal_of-requires : goal.refusal_of-requires
-refusal_of-requires c = tt
-
 pub returns-then-out-length : goal.returns-then-out-length
 returns-then-out-length c = rw c.refusal_of.ensures (short_output _ _ c.requires (omega arith))
 
