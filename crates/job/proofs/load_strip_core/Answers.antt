@@ -1,16 +1,11 @@
 -- `job::load_strip_core`: 14, 15 and the table, then the reader on the part that both areas have. Assumes nothing.
 use mathlib.Core.Path.{sym, ◌∙◌}
-use borrow.Author.Rules.{rules}
 use Rattle.history.specs.Source.{from_strip}
-use Rattle.job.proofs.Areas.{part_length}
 use Rattle.job.proofs.Loads.{not_admitted, strip_parts, entered}
 use Rattle.job.proofs.load_strip_core.Goals as goal
 
 pub returns-in-Refused : goal.returns-in-Refused
 returns-in-Refused c = not_admitted _ (from_strip _ _) _ (sym c.admit.ensures ∙ c.in-Refused.is)
-
-pub slice_bounds-read-end-2 : goal.slice_bounds-read-end-2
-slice_bounds-read-end-2 c = part_length _ _ ((search rules))
 
 pub returns : goal.returns
 returns c =

@@ -1,16 +1,11 @@
 -- `job::load_three_core`: as `load_core`, with the reader of three files. Assumes nothing.
 use mathlib.Core.Path.{refl, sym, ◌∙◌}
-use borrow.Author.Rules.{rules}
 use Rattle.history.specs.Source.{from_three}
-use Rattle.job.proofs.Areas.{part_length}
 use Rattle.job.proofs.Loads.{not_admitted, single_parts, entered}
 use Rattle.job.proofs.load_three_core.Goals as goal
 
 pub returns-in-Refused : goal.returns-in-Refused
 returns-in-Refused c = not_admitted _ (from_three _ _ _) _ (sym c.admit.ensures ∙ c.in-Refused.is)
-
-pub slice_bounds-read-end-2 : goal.slice_bounds-read-end-2
-slice_bounds-read-end-2 c = part_length _ _ ((search rules))
 
 pub returns : goal.returns
 returns c =

@@ -1,13 +1,10 @@
 -- `noise::draw` meets its contract: after i turns i pixels are filled in, and the ring holds the 55 numbers from number i on. Assumes nothing.
 use Rattle.std.proofs.Common.{◌≡◌, ap, ◌∙◌, arith, rules}
 use Rattle.noise.specs.Noise.{blackness}
-use Rattle.noise.proofs.Ring.{ring_none, ring_drawn, ring_more}
-use Rattle.seq.proofs.Tab.{fill_none, fill_more}
+use Rattle.noise.proofs.Ring.{ring_drawn, ring_more}
+use Rattle.seq.proofs.Tab.{fill_more}
 use Rattle.verdict.proofs.Writer.{filled_over}
 use Rattle.noise.proofs.draw.Goals as goal
-
-pub loop-i-init : goal.loop-i-init
-loop-i-init c = (search rules, fill_none _ _, ring_none c.seeds-ring.ensures)
 
 pub loop-i-preserved : goal.loop-i-preserved
 loop-i-preserved c =

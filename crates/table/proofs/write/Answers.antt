@@ -4,8 +4,5 @@ use mathlib.Core.Path.{sym, ◌∙◌}
 use Rattle.table.proofs.Outputs.{refused_output}
 use Rattle.table.proofs.write.Goals as goal
 
-pub write_checked-requires : goal.write_checked-requires
-write_checked-requires c = sym c.check.ensures ∙ c.in-Accepted.is
-
 pub returns-in-Refused : goal.returns-in-Refused
 returns-in-Refused c = refused_output _ _ (sym c.check.ensures ∙ c.in-Refused.is)

@@ -1,9 +1,6 @@
 -- `filter::apply::is_ranged` meets its contract. Assumes nothing.
 use mathlib.Core.Bool.{and-false}
-use mathlib.Core.Path.{sym}
-use borrow.Author.Rules.{rules}
 use borrow.Author.Tests.{lt-leb}
-use lib.Seq.{length-take-le}
 use Rattle.filter.specs.Applied.{ranged}
 use Rattle.filter.proofs.PassCodeChecks.{ranged_of}
 use Rattle.filter.proofs.apply.is_ranged.Goals as goal
@@ -15,9 +12,6 @@ returns-then-count-gt-MAX_ELEMENTS c = simp (lt-leb _ _ c.if-count-gt-MAX_ELEMEN
 pub returns-then-table-gt-MAX_RANKS : goal.returns-then-table-gt-MAX_RANKS
 unfolding ranged
 returns-then-table-gt-MAX_RANKS c = simp (lt-leb _ _ c.if-table-gt-MAX_RANKS.true, and-false)
-
-pub slice_bounds-are_valid-end : goal.slice_bounds-are_valid-end
-slice_bounds-are_valid-end c = sym (length-take-le _ _ ((search rules)))
 
 pub returns : goal.returns
 returns c =

@@ -2,7 +2,7 @@
 -- Assumes nothing.
 use native.Mathlib.Omega.{arith}
 use Rattle.table.proofs.Masks.{position_elim}
-use Rattle.filter.proofs.CandidatePairs.{added_none, added_more}
+use Rattle.filter.proofs.CandidatePairs.{added_more}
 use Rattle.filter.proofs.candidate.add_pair.Goals as goal
 
 pub shift_of-a-requires : goal.shift_of-a-requires
@@ -10,10 +10,6 @@ shift_of-a-requires c = (position_elim _ c.pair_of-p.ensures.low).0
 
 pub shift_of-b-requires : goal.shift_of-b-requires
 shift_of-b-requires c = (position_elim _ c.pair_of-p.ensures.high).0
-
-pub returns-then-is_among : goal.returns-then-is_among
-returns-then-is_among c =
-    added_none (omega arith) (omega arith) (c.is_among.ensures c.if-is_among.true) c.pair_of-p.ensures c.shift_of-a.ensures.0 c.shift_of-b.ensures.0
 
 pub returns : goal.returns
 returns c =

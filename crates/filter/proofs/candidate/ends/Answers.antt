@@ -3,12 +3,9 @@
 use mathlib.Core.Path.{refl, sym, ◌∙◌}
 use Prim.Native.Nat.{◌-◌}
 use native.Mathlib.Omega.{arith}
-use Rattle.filter.proofs.CandidatePairs.{met_none, met_yes, met_no, met_all}
+use Rattle.filter.proofs.CandidatePairs.{met_yes, met_no, met_all}
 use Rattle.filter.proofs.candidate.ends.Goals as goal
 use Rattle.filter.proofs.candidate.ends.Goals.{then-has, else-has, then-has-2, else-has-2}
-
-pub loop-p-init : goal.loop-p-init
-loop-p-init c = (met_none _ _ _, met_none _ _ _, omega arith)
 
 pub loop-p-preserved : goal.loop-p-preserved
 loop-p-preserved c =

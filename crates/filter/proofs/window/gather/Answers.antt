@@ -7,16 +7,6 @@ use Rattle.operator.proofs.Window.{side_le}
 use native.Mathlib.Omega.{arith}
 use Rattle.filter.proofs.window.gather.Goals as goal
 
-pub overflow_add-row-2 : goal.overflow_add-row-2
-overflow_add-row-2 c =
-    let high : c.args.height ≤ length c.args.values.now = omega (arith, side_le c.args.height c.requires.1) in
-    omega (arith, high)
-
-pub overflow_add-row-3 : goal.overflow_add-row-3
-overflow_add-row-3 c =
-    let high : c.args.height ≤ length c.args.values.now = omega (arith, side_le c.args.height c.requires.1) in
-    omega (arith, high)
-
 pub overflow_add-row-4 : goal.overflow_add-row-4
 overflow_add-row-4 c =
     let high : c.args.height ≤ length c.args.values.now = omega (arith, side_le c.args.height c.requires.1) in

@@ -51,12 +51,6 @@ bounds-out-end c =
     let kept-2 : length c.write-end.new.out ≡ length c.args.out.now = c.write-end.auto.out ∙ simp length-set kept in
     omega (arith, room, kept-2, c.write-middle.ensures.0, c.write-end.ensures.0)
 
-pub shape_of-out : goal.shape_of-out
-shape_of-out c =
-    let kept : length c.write-middle.new.out ≡ length c.args.out.now = c.write-middle.auto.out ∙ simp length-set in
-    let kept-2 : length c.write-end.new.out ≡ length c.args.out.now = c.write-end.auto.out ∙ simp length-set kept in
-    simp length-set kept-2
-
 pub returns : goal.returns
 returns c =
     header_written _ _ _ c.write-middle.ensures.0 c.write-middle.ensures.1 c.write-end.ensures.0 c.write-end.ensures.1

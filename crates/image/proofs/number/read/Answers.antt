@@ -6,7 +6,7 @@ use Prim.Native.Nat.{ℕ}
 use native.Mathlib.Omega.{arith}
 use lib.ListN.{drop}
 use Rattle.image.specs.Header.{strict}
-use Rattle.image.proofs.NumberAt.{byte_within, strict_count, number_loose, number_other, number_value}
+use Rattle.image.proofs.NumberAt.{strict_count, number_loose, number_other, number_value}
 use Rattle.image.proofs.number.read.Goals as goal
 
 pub returns-then-not-is_strict : goal.returns-then-not-is_strict
@@ -24,11 +24,6 @@ value-requires c =
     let strict-here : strict (drop c.args.at bytes) ≡ true = sym c.is_strict.ensures ∙ c.if-not-is_strict.false in
     let e = c.digits_end-end.ensures in
     (e, omega (arith, strict_count _ strict-here))
-
-pub overflow_add-result : goal.overflow_add-result
-overflow_add-result c =
-    let bytes : List ℕ = c.args.file.now in
-    omega (arith, byte_within bytes c.digits_end-end.result (omega (arith, c.byte_at.ensures)))
 
 pub returns : goal.returns
 returns c =

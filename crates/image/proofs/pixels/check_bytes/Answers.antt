@@ -1,12 +1,7 @@
 -- `image::pixels::check_bytes` meets its contract. Assumes nothing.
 use mathlib.Core.Path.{sym, ◌∙◌}
-use native.Mathlib.Omega.{arith}
 use Rattle.image.proofs.PixelsOf.{bytes_count, bytes_values}
-use Rattle.image.proofs.RowBytes.{strip_few}
 use Rattle.image.proofs.pixels.check_bytes.Goals as goal
-
-pub overflow_mul-width : goal.overflow_mul-width
-overflow_mul-width c = omega (arith, strip_few c.requires.1 c.requires.2)
 
 pub returns-then-pixels-width : goal.returns-then-pixels-width
 returns-then-pixels-width c = c.refused.ensures ∙ sym (bytes_count _ _ _ c.if-pixels-width.true)

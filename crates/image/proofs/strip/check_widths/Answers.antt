@@ -1,21 +1,13 @@
 -- `image::strip::check_widths`: every part passed has the first part's width. Assumes nothing.
 use mathlib.Core.Bool.{not}
 use mathlib.Core.Path.{ap, ◌∙◌}
-use borrow.Author.Tests.{eq-eqb, ne_eqb}
-use Rattle.seq.proofs.Search.{passed_none, passed_more}
+use borrow.Author.Tests.{ne_eqb}
 use Rattle.verdict.proofs.Rules.{search_found, search_none}
 use Rattle.image.proofs.strip.check_widths.Goals as goal
-
-pub loop-i-init : goal.loop-i-init
-loop-i-init c = passed_none
 
 pub returns-then-widths-i : goal.returns-then-widths-i
 returns-then-widths-i c =
     c.refused.ensures ∙ search_found 23 c.loop-i.invariant c.loop-i-test.true (ap not (ne_eqb _ _ c.if-widths-i.true))
-
-pub loop-i-preserved : goal.loop-i-preserved
-loop-i-preserved c =
-    passed_more c.loop-i.invariant c.loop-i-test.true (ap not (eq-eqb _ _ c.if-widths-i.false))
 
 pub returns : goal.returns
 returns c = search_none 23 c.loop-i.invariant c.loop-i-test.false

@@ -1,10 +1,7 @@
 -- `image::strip::length_of`: the bytes of the files of the parts passed. Assumes nothing.
 use native.Mathlib.Omega.{arith}
-use Rattle.image.proofs.StripLoops.{part_sides, measured_none, measured_fits, measured_more, measured_all}
+use Rattle.image.proofs.StripLoops.{part_sides, measured_fits, measured_more}
 use Rattle.image.proofs.strip.length_of.Goals as goal
-
-pub loop-i-init : goal.loop-i-init
-loop-i-init c = measured_none _ _
 
 pub length_of-bytes-requires : goal.length_of-bytes-requires
 length_of-bytes-requires c =
@@ -16,6 +13,3 @@ overflow_add-bytes c =
 
 pub loop-i-preserved : goal.loop-i-preserved
 loop-i-preserved c = measured_more c.loop-i.invariant c.length_of-bytes.ensures c.loop-i-test.true
-
-pub returns : goal.returns
-returns c = measured_all c.loop-i.invariant c.loop-i-test.false

@@ -1,13 +1,10 @@
 -- `image::strip::sum`: the rows of the parts passed. Assumes nothing.
-use mathlib.Core.Path.{ap, ◌∙◌}
 use native.Mathlib.Omega.{arith}
 use borrow.Author.Rules.{rules}
-use lib.Seq.{take_all}
 use Rattle.image.proofs.Parts.{part_ends}
 use Rattle.image.proofs.Shapes.{rows_few}
 use Rattle.image.proofs.StripLoops.{each_rows}
 use Rattle.seq.proofs.Fronts.{sum_front}
-use Rattle.seq.specs.Lists.{sum_of}
 use Rattle.image.proofs.strip.sum.Goals as goal
 
 pub overflow_add-rows : goal.overflow_add-rows
@@ -17,6 +14,3 @@ overflow_add-rows c =
 
 pub loop-i-preserved : goal.loop-i-preserved
 loop-i-preserved c = (search rules, omega (arith, sum_front c.args.heights.now c.loop-i.i c.loop-i-test.true))
-
-pub returns : goal.returns
-returns c = c.loop-i.invariant.1 ∙ ap sum_of (take_all _ _ c.loop-i-test.false)

@@ -5,11 +5,8 @@ use native.Mathlib.Nat.{le_of_eq}
 use native.Mathlib.Omega.{arith}
 use lib.ListN.{length, get_or}
 use Rattle.image.proofs.RowBytes.{pixels_few}
-use Rattle.image.proofs.StripLoops.{part_sides, part_length, part_binary, put_none, put_source, put_target, put_more, put_all}
+use Rattle.image.proofs.StripLoops.{part_sides, part_length, part_binary, put_source, put_target, put_more, put_all}
 use Rattle.image.proofs.strip.write_parts.Goals as goal
-
-pub loop-i-init : goal.loop-i-init
-loop-i-init c = put_none _ _ _ _
 
 pub overflow_mul-pixel_end : goal.overflow_mul-pixel_end
 overflow_mul-pixel_end c =
@@ -22,11 +19,6 @@ overflow_add-pixel_end c =
 pub length_of-requires : goal.length_of-requires
 length_of-requires c =
     part_sides _ c.requires.0 c.requires.1 c.requires.2 _ c.loop-i-test.true
-
-pub overflow_add-file_end : goal.overflow_add-file_end
-overflow_add-file_end c =
-    let room : c.loop-i.to + c.length_of.result ≤ length c.loop-i.out = put_target c.loop-i.invariant c.loop-i-test.true c.requires.5 (c.length_of.ensures _) in
-    omega (arith, room)
 
 pub slice_bounds-put-end : goal.slice_bounds-put-end
 slice_bounds-put-end c = put_source c.loop-i.invariant c.loop-i-test.true c.requires.4

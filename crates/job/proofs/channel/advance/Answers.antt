@@ -9,9 +9,6 @@ use Rattle.job.proofs.channel.advance.Goals as goal
 pub within-allowed-requires : goal.within-allowed-requires
 within-allowed-requires c = rule_channel _ _ c.requires.2
 
-pub advance-stepped-requires : goal.advance-stepped-requires
-advance-stepped-requires c = (c.requires.0, c.requires.1)
-
 pub overflow_sub-spent : goal.overflow_sub-spent
 overflow_sub-spent c =
     let passes : (c.args.job.passes ≤ c.advance-stepped.result.job.passes)

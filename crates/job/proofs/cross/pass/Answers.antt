@@ -5,7 +5,7 @@ use borrow.Author.Rules.{rules}
 use lib.ListN.{length}
 use Rattle.history.proofs.Ready.{ready_small}
 use Rattle.image.specs.Strip.{max_parts}
-use Rattle.job.proofs.Areas.{part_length, image_even, image_odd}
+use Rattle.job.proofs.Areas.{image_even, image_odd}
 use Rattle.job.proofs.Crossings.{Places, by_room, crossing_fits, crossed_even, crossed_odd}
 use Rattle.job.proofs.cross.pass.Goals as goal
 
@@ -13,18 +13,12 @@ pub room_of-room-requires : goal.room_of-room-requires
 room_of-room-requires c =
     (ready_small c.requires.0, c.requires.0.counts)
 
-pub slice_bounds-pass-end-then-job-eq0 : goal.slice_bounds-pass-end-then-job-eq0
-slice_bounds-pass-end-then-job-eq0 c = part_length _ _ ((search rules))
-
 pub conclude-requires : goal.conclude-requires
 conclude-requires c =
     let added_places : length c.args.job.counts.added ≡ max_parts = search rules in
     let removed_places : length c.args.job.counts.removed ≡ max_parts = search rules in
     let places : Places c.args.job = record { added = added_places; removed = removed_places } in
     crossing_fits c.requires.0 c.requires.1 places _ c.requires.0.second (image_even _ c.if-job-eq0.true) (by_room _ _ _ _ c.room_of-room.ensures c.pass-crossed.ensures) c.done.ensures
-
-pub slice_bounds-pass-end-else-job-eq0-2 : goal.slice_bounds-pass-end-else-job-eq0-2
-slice_bounds-pass-end-else-job-eq0-2 c = part_length _ _ ((search rules))
 
 pub conclude-requires-else-job-eq0 : goal.conclude-requires-else-job-eq0
 conclude-requires-else-job-eq0 c =

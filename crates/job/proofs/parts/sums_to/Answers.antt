@@ -1,13 +1,11 @@
 -- `job::parts::sums_to`: what is left and what was passed make up the total. Assumes nothing.
 use mathlib.Core.Bool.{Bool, true, false}
-use mathlib.Core.List.{List}
-use mathlib.Core.Path.{◌≡◌, refl, sym, ap, ◌∙◌}
+use mathlib.Core.Path.{◌≡◌, refl, sym}
 use Prim.Native.Nat.{ℕ, ◌+◌}
 use native.Mathlib.Omega.{arith}
 use borrow.Author.Rules.{rules}
 use borrow.Author.Tests.{eqb-true, eqb-false, eq-eqb, ne_eqb}
 use lib.Dec.{eqb}
-use lib.Seq.{take_all}
 use Rattle.image.proofs.Parts.{part_ends}
 use Rattle.seq.proofs.Fronts.{sum_front}
 use Rattle.seq.specs.Lists.{sum_of}
@@ -28,7 +26,3 @@ returns-then-left-numbers c =
 pub loop-i-preserved : goal.loop-i-preserved
 loop-i-preserved c =
     (search rules, omega (arith, c.loop-i.invariant.1, sum_front c.args.numbers.now c.loop-i.i c.loop-i-test.true, c.if-left-numbers.false))
-
-pub returns : goal.returns
-returns c =
-    at-end c.loop-i.left _ (sum_of c.args.numbers.now) (ap (λ (l : List ℕ). c.loop-i.left + sum_of l) (sym (take_all c.loop-i.i c.args.numbers.now c.loop-i-test.false)) ∙ c.loop-i.invariant.1)

@@ -9,15 +9,12 @@ use Rattle.history.specs.Quota.{max_channels, kept}
 use Rattle.image.proofs.Parts.{part_ends}
 use Rattle.job.proofs.Charges.{kept_places, kept_tab, open_split, open_above, open_within, opened_refused, opened_whole}
 use Rattle.seq.proofs.Fronts.{sum_front}
-use Rattle.seq.proofs.Tab.{fill_none, fill_more, fill_whole}
+use Rattle.seq.proofs.Tab.{fill_more, fill_whole}
 use Rattle.seq.specs.Lists.{sum_of}
 use Rattle.job.proofs.quota.open.Goals as goal
 
 pub returns-in-Refused : goal.returns-in-Refused
 returns-in-Refused c = sym (opened_refused _ (open_split _ ∙ rw (sym c.check.ensures ∙ c.in-Refused.is)))
-
-pub loop-i-init : goal.loop-i-init
-loop-i-init c = (search rules, fill_none _ _, omega arith)
 
 pub returns-then-pool-reserve : goal.returns-then-pool-reserve
 returns-then-pool-reserve c =

@@ -1,7 +1,6 @@
 -- `mask::is_bad_after` meets its contract, test by test.
 -- Assumes nothing.
-use mathlib.Core.Bool.{not}
-use mathlib.Core.Path.{sym, ap, ◌∙◌}
+use mathlib.Core.Path.{sym, ◌∙◌}
 use Rattle.table.specs.Code.Search.{bad_after}
 use Rattle.table.proofs.mask.is_bad_after.Goals as goal
 

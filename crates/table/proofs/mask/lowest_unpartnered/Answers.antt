@@ -1,19 +1,13 @@
 -- `mask::lowest_unpartnered` meets its contract: a search over the positions.
 -- Assumes nothing.
 use mathlib.Core.Path.{sym, ◌∙◌}
-use Rattle.seq.proofs.Search.{passed_none, passed_more, passed_found, passed_all}
+use Rattle.seq.proofs.Search.{passed_found, passed_all}
 use Rattle.table.specs.Mask.{unpartnered}
 use Rattle.table.proofs.mask.lowest_unpartnered.Goals as goal
-
-pub loop-b-init : goal.loop-b-init
-loop-b-init c = passed_none
 
 pub returns-then-lacks_partner : goal.returns-then-lacks_partner
 unfolding unpartnered
 returns-then-lacks_partner c = passed_found c.loop-b.invariant c.loop-b-test.true (sym c.lacks_partner.ensures ∙ c.if-lacks_partner.true)
-
-pub loop-b-preserved : goal.loop-b-preserved
-loop-b-preserved c = passed_more c.loop-b.invariant c.loop-b-test.true (sym c.lacks_partner.ensures ∙ c.if-lacks_partner.false)
 
 pub returns : goal.returns
 unfolding unpartnered

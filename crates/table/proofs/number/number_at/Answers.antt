@@ -8,7 +8,6 @@ use lib.Dec.{eqb}
 use Rattle.std.proofs.lemmas.Bool.Decides.{nat_tests}
 use Rattle.table.proofs.number.number_at.Goals.{else-more-gt0-via-then-more-gt0+else-bytes-last-eq0, else-more-gt0-via-else-more-gt0}
 use native.Mathlib.Omega.{arith}
-use borrow.Author.Tests.{eqb-true}
 use lib.ListN.{drop, get_or, length-drop}
 use lib.Seq.{get_or-drop}
 use Rattle.table.specs.Code.Cursor.{number_at}

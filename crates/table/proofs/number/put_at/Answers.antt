@@ -1,20 +1,11 @@
 -- `number::put_at` meets its contract.
 -- Assumes nothing.
 use native.Mathlib.Omega.{arith}
-use Rattle.table.proofs.Bytes.{putting_none, putting_length, putting_more, putting_all}
+use Rattle.table.proofs.Bytes.{putting_more, putting_all}
 use Rattle.table.proofs.number.put_at.Goals as goal
-
-pub loop-j-init : goal.loop-j-init
-loop-j-init c = putting_none _ _ _
-
-pub bounds-out-at : goal.bounds-out-at
-bounds-out-at c = omega (arith, putting_length c.loop-j.invariant)
 
 pub loop-j-preserved : goal.loop-j-preserved
 loop-j-preserved c = putting_more c.loop-j.invariant c.group_count-count.ensures c.loop-j-test.true c.group_byte.ensures
-
-pub shape_of-out : goal.shape_of-out
-shape_of-out c = putting_length c.loop-j.invariant
 
 pub returns : goal.returns
 returns c = (omega arith, putting_all c.loop-j.invariant (omega arith))

@@ -1,20 +1,14 @@
 -- `reading::read_ranks` meets its contract, in each form of the file.
 -- Assumes nothing.
 use mathlib.Core.Path.{sym, ◌∙◌}
-use borrow.Author.Tests.{not-true, not-false}
 use lib.ListN.{drop}
 use Rattle.table.specs.File.{ranks_rules, file_parts}
-use Rattle.table.proofs.Files.{read_part, read_next, single_judged}
+use Rattle.table.proofs.Files.{read_part, read_next}
 use Rattle.table.proofs.Parts.{ranks_single, ranks_number, ranks_said, ranks_read}
 use Rattle.table.proofs.reading.read_ranks.Goals as goal
 
 pub read_persistents-requires : goal.read_persistents-requires
 read_persistents-requires c = ranks_single c.requires c.if-not-more.true
-
-pub returns-then-not-more : goal.returns-then-not-more
-returns-then-not-more c =
-    c.read_persistents.ensures
-    ∙ read_next _ (ranks_rules _) (drop 4 (file_parts _)) (single_judged _ (sym c.if-not-more.true ∙ c.requires.form))
 
 pub returns-then-is_bad_ranks : goal.returns-then-is_bad_ranks
 returns-then-is_bad_ranks c =

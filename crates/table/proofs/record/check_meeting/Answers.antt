@@ -3,17 +3,10 @@
 use mathlib.Core.Path.{sym, ap, ◌∙◌}
 use native.Mathlib.Omega.{arith}
 use Rattle.seq.specs.Lists.{is_some}
-use Rattle.seq.proofs.Search.{passed_none, passed_more, passed_found, passed_all}
+use Rattle.seq.proofs.Search.{passed_found, passed_all}
 use Rattle.table.specs.Code.Search.{found}
-use Rattle.table.proofs.Places.{found_none}
 use Rattle.table.proofs.Verdicts.{apart_lt, meet_refused}
 use Rattle.table.proofs.record.check_meeting.Goals as goal
-
-pub loop-k-init : goal.loop-k-init
-loop-k-init c = passed_none
-
-pub disjoint_from-requires : goal.disjoint_from-requires
-disjoint_from-requires c = (omega arith, c.requires.element_lt _ (omega arith))
 
 pub overflow_add-j : goal.overflow_add-j
 overflow_add-j c =
@@ -24,10 +17,6 @@ returns-in-Found c =
     let apart = sym c.disjoint_from.ensures ∙ ap found c.in-Found.is in
     c.refused_for.ensures
     ∙ sym (meet_refused _ (sym (passed_found c.loop-k.invariant c.loop-k-test.true (ap is_some apart))) apart)
-
-pub loop-k-preserved : goal.loop-k-preserved
-loop-k-preserved c =
-    passed_more c.loop-k.invariant c.loop-k-test.true (found_none c.disjoint_from.ensures c.in_default.is)
 
 pub returns : goal.returns
 returns c = rw (sym (passed_all c.loop-k.invariant c.loop-k-test.false))

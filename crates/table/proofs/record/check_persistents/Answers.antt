@@ -10,13 +10,10 @@ use Rattle.table.specs.declared.mask.Kind.TheVariants.{Persistent}
 use Rattle.table.specs.Code.Search.{found}
 use Rattle.table.specs.Record.{max_ranks, bad_ranks}
 use Rattle.table.proofs.Places.{place_lt}
-use Rattle.table.proofs.Verdicts.{lowest_persistent, persistent_found, ranks_le, ranks_search, ranks_refused, persistent_refused, persistents_accepted}
+use Rattle.table.proofs.Verdicts.{lowest_persistent, persistent_found, ranks_le, ranks_search, persistent_refused, persistents_accepted}
 use Rattle.verdict.specs.declared.Verdict.TheVariants.{Refused}
 use Rattle.verdict.specs.Rules.{refusal}
 use Rattle.table.proofs.record.check_persistents.Goals as goal
-
-pub returns-then-is_bad_ranks : goal.returns-then-is_bad_ranks
-returns-then-is_bad_ranks c = c.refused.ensures ∙ sym (ranks_refused _ (sym c.is_bad_ranks.ensures ∙ c.if-is_bad_ranks.true))
 
 pub persistent_place-requires : goal.persistent_place-requires
 persistent_place-requires c =

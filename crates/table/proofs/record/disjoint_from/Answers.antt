@@ -1,12 +1,9 @@
 -- `record::disjoint_from` meets its contract: a search over the earlier elements.
 -- Assumes nothing.
-use Rattle.seq.proofs.Search.{passed_none, passed_more, passed_found, passed_all}
+use Rattle.seq.proofs.Search.{passed_more, passed_found, passed_all}
 use Rattle.table.specs.Record.{disjoint_from}
 use Rattle.table.proofs.Positions.{apart_masks, meeting_masks}
 use Rattle.table.proofs.record.disjoint_from.Goals as goal
-
-pub loop-j-init : goal.loop-j-init
-loop-j-init c = passed_none
 
 pub returns-then-element-table-eq0 : goal.returns-then-element-table-eq0
 unfolding disjoint_from

@@ -2,19 +2,13 @@
 -- Assumes nothing.
 use mathlib.Core.Path.{sym, ◌∙◌}
 use native.Mathlib.Omega.{arith}
-use Rattle.seq.proofs.Search.{passed_none, passed_more, passed_found, passed_all}
+use Rattle.seq.proofs.Search.{passed_found, passed_all}
 use Rattle.table.specs.Code.Search.{lowest_bad}
 use Rattle.table.proofs.record.first_bad.Goals as goal
-
-pub loop-k-init : goal.loop-k-init
-loop-k-init c = passed_none
 
 pub returns-then-is_bad_place : goal.returns-then-is_bad_place
 unfolding lowest_bad
 returns-then-is_bad_place c = passed_found c.loop-k.invariant (omega arith) (sym c.is_bad_place.ensures ∙ c.if-is_bad_place.true)
-
-pub loop-k-preserved : goal.loop-k-preserved
-loop-k-preserved c = passed_more c.loop-k.invariant (omega arith) (sym c.is_bad_place.ensures ∙ c.if-is_bad_place.false)
 
 pub returns : goal.returns
 unfolding lowest_bad

@@ -1,27 +1,12 @@
 -- `record::missed_by` meets its contract: a search over the persistent elements.
 -- Assumes nothing.
 use mathlib.Core.Path.{sym, ap, ◌∙◌}
-use native.Mathlib.Omega.{arith}
-use Rattle.seq.proofs.Search.{passed_none, passed_more, passed_found, passed_all}
+use Rattle.seq.proofs.Search.{passed_more, passed_found, passed_all}
 use Rattle.seq.specs.Lists.{is_some}
 use Rattle.table.specs.Code.Search.{found, nowhere, at}
 use Rattle.table.specs.Record.{missed_by}
 use Rattle.table.proofs.Places.{found_none, missed_is}
 use Rattle.table.proofs.record.missed_by.Goals as goal
-
-pub bounds-table-k : goal.bounds-table-k
-bounds-table-k c = omega (arith, c.requires.0.few)
-
-pub loop-r-init : goal.loop-r-init
-loop-r-init c = passed_none
-
-pub bounds-table-r : goal.bounds-table-r
-bounds-table-r c = omega (arith, c.requires.0.few_ranks)
-
-pub lowest_unpartnered-requires : goal.lowest_unpartnered-requires
-lowest_unpartnered-requires c =
-    let (w, l) = c.requires in
-    (w.persistent_lt _ (omega arith), w.element_lt _ l)
 
 pub returns-in-Found : goal.returns-in-Found
 unfolding missed_by

@@ -1,13 +1,9 @@
 -- `writing::number_length` meets its contract, in each form of the file.
 -- Assumes nothing.
 use mathlib.Core.Path.{refl}
-use native.Mathlib.Omega.{arith}
-use borrow.Author.Tests.{eq-eqb, ne_eqb}
+use borrow.Author.Tests.{ne_eqb}
 use Rattle.table.proofs.Bytes.{length_number, count_bounds}
 use Rattle.table.proofs.writing.number_length.Goals as goal
-
-pub returns-then-table-eq1 : goal.returns-then-table-eq1
-returns-then-table-eq1 c = rw (eq-eqb _ _ c.if-table-eq1.true) (refl, omega arith)
 
 pub returns : goal.returns
 returns c = rw (ne_eqb _ _ c.if-table-eq1.false, length_number, c.group_count.ensures) (refl, (count_bounds c.args.n).1)

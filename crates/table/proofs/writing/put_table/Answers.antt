@@ -1,14 +1,10 @@
 -- `writing::put_table` meets its contract: the five parts of a file, one after the other.
 -- Assumes nothing.
-use mathlib.Core.Path.{◌≡◌, sym, ap, ◌∙◌}
+use mathlib.Core.Path.{sym, ap, ◌∙◌}
 use Prim.Native.Nat.{ℕ, ◌+◌}
-use native.Mathlib.Omega.{arith}
-use borrow.Author.Rules.{rules}
-use lib.ListN.{length}
-use lib.Seq.{length-take-le}
 use Rattle.table.specs.File.{if_several, masks_bytes, table_bytes}
 use Rattle.table.specs.Number.{number_bytes}
-use Rattle.table.specs.Record.{max_elements, max_ranks, masks, persistents}
+use Rattle.table.specs.Record.{masks, persistents}
 use Rattle.table.proofs.Bytes.{length_number, to_leading, to_count, to_elements, to_ranks, fits, Wrote, wrote_none, wrote_fits, wrote_more, wrote_all}
 use Rattle.table.proofs.writing.put_table.Goals as goal
 
@@ -21,16 +17,6 @@ put_at-elements_at-requires c =
     let wrote-leading : Wrote c.args.out.now (to_leading c.args.table) c.put_number-count_at.result c.put_number-count_at.new.out = wrote_more (wrote_none c.args.out.now) (if_several c.args.table 0) c.put_number-count_at.ensures.0 c.put_number-count_at.ensures.1 in
     let t = c.args.table in
     rw (← length_number t.count) (wrote_fits wrote-leading (number_bytes t.count) (fits t _ c.requires.2).1)
-
-pub slice_bounds-elements-end : goal.slice_bounds-elements-end
-slice_bounds-elements-end c =
-    let element_places : length c.args.table.elements ≡ max_elements = search rules in
-    omega (arith, element_places, c.requires.0)
-
-pub slice_bounds-put_masks-end : goal.slice_bounds-put_masks-end
-slice_bounds-put_masks-end c =
-    let element_places : length c.args.table.elements ≡ max_elements = search rules in
-    sym (length-take-le _ _ ((omega (arith, element_places, c.requires.0))))
 
 pub put_masks-ranks_at-requires : goal.put_masks-ranks_at-requires
 unfolding masks
@@ -49,16 +35,6 @@ put_number-persistents_at-requires c =
     let wrote-elements : Wrote c.args.out.now (to_elements c.args.table) c.put_masks-ranks_at.result c.put_masks-ranks_at.new.out = wrote_more wrote_count (masks_bytes (masks c.args.table)) c.put_masks-ranks_at.ensures.0 c.put_masks-ranks_at.ensures.1 in
     let t = c.args.table in
     wrote_fits wrote-elements (if_several t t.ranks) (fits t _ c.requires.2).3
-
-pub slice_bounds-persistents-end : goal.slice_bounds-persistents-end
-slice_bounds-persistents-end c =
-    let persistent_places : length c.args.table.persistents ≡ max_ranks = search rules in
-    omega (arith, persistent_places, c.requires.1)
-
-pub slice_bounds-put_masks-end-2 : goal.slice_bounds-put_masks-end-2
-slice_bounds-put_masks-end-2 c =
-    let persistent_places : length c.args.table.persistents ≡ max_ranks = search rules in
-    sym (length-take-le _ _ ((omega (arith, persistent_places, c.requires.1))))
 
 pub put_masks-requires : goal.put_masks-requires
 unfolding persistents table_bytes masks

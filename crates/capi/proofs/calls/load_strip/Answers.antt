@@ -1,7 +1,0 @@
--- `capi::calls::load_strip`: the library's answer, turned for C. Assumes nothing.
-use Rattle.capi.proofs.CallsLaws.{load_turned}
-use Rattle.capi.proofs.calls.load_strip.Goals as goal
-
-pub returns : goal.returns
-returns c =
-    (load_turned c.load_strip_core-loaded.ensures.0 c.of_verdict.ensures, c.load_strip_core-loaded.ensures.1, c.load_strip_core-loaded.ensures.2)

@@ -1,7 +1,0 @@
--- `image::number::byte_at` meets its contract. Assumes nothing.
-use mathlib.Core.Path.{sym}
-use lib.ListN.{get_or-eq_default}
-use Rattle.image.proofs.number.byte_at.Goals as goal
-
-pub returns-else-at-file : goal.returns-else-at-file
-returns-else-at-file c = sym (get_or-eq_default c.args.file.now 0 c.if-at-file.false)
