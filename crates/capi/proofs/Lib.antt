@@ -1,2 +1,1 @@
-pub mod CallsLaws
 pub mod PartLaws

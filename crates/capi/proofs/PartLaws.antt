@@ -2,6 +2,7 @@
 --     Promised s p                    an answer is `part_of`, it shows the view, and record and areas are as they were
 --     part_refused, part_accepted     so it is, by the verdict that the library gave
 -- Assumes nothing.
+use Rattle.std.specs.Prelude.{Ok, Err}
 use mathlib.Core.Bool.{Bool, true, false, cond}
 use mathlib.Core.Path.{◌≡◌, refl}
 use Prim.Native.Nat.{ℕ, ◌≤◌}
@@ -16,8 +17,7 @@ use Rattle.history.specs.Call.{view, state_of}
 use Rattle.history.specs.Sound.{Ready}
 use Rattle.history.proofs.Ready.{accepted_ready}
 use Rattle.verdict.specs.declared.Refusal.{Refusal}
-use Rattle.verdict.specs.declared.Verdict.{Verdict}
-use Rattle.verdict.specs.declared.Verdict.TheVariants.{Accepted, Refused}
+use Rattle.verdict.specs.Rules.{Verdict}
 
 part_is : (s : State) {v : Verdict} → ready_verdict s ≡ v → part_as v s ≡ part_of s
 unfolding part_of
@@ -35,15 +35,15 @@ long s r false = r.second
 -- by the verdict: a refused view is empty, an accepted one is the image in the area that the parity names
 shows_as : (s : State) (v : Verdict) → ready_verdict s ≡ v → Shows (part_as v s) s
 unfolding view_of image present
-shows_as s Accepted e = record {
+shows_as s (Ok _) e = record {
   bytes = rw (e, named s (even s.job.passes));
   inside = rw (named s (even s.job.passes)) (long s (accepted_ready s e) (even s.job.passes));
 }
-shows_as s (Refused r) e = record { bytes = rw e; inside = omega arith }
+shows_as s (Err r) e = record { bytes = rw e; inside = omega arith }
 
 -- an accepted answer that names area n
 abbrev accepted : ℕ → State → Part
-accepted n s = record { checked = of_verdict Accepted; area = n; length = pixels s.job }
+accepted n s = record { checked = of_verdict (Ok tt); area = n; length = pixels s.job }
 
 -- what is promised of an answer; record and areas are as they were
 abbrev Promised : State → Part → Type 0
@@ -54,8 +54,8 @@ module _ (s : State) where
   unfolding state_of
   by_verdict v e = (part_is s e, shows_as s v e, refl)
 
-  pub part_refused : {r : Refusal} → ready_verdict s ≡ Refused r → Promised s (part_as (Refused r) s)
+  pub part_refused : {r : Refusal} → ready_verdict s ≡ Err r → Promised s (part_as (Err r) s)
   part_refused e = by_verdict _ e
 
-  pub part_accepted : ready_verdict s ≡ Accepted → {n : ℕ} → n ≡ cond (even s.job.passes) 1 2 → Promised s (accepted n s)
+  pub part_accepted : ready_verdict s ≡ Ok tt → {n : ℕ} → n ≡ cond (even s.job.passes) 1 2 → Promised s (accepted n s)
   part_accepted e q = rw q (by_verdict _ e)

@@ -5,18 +5,17 @@
 --     shown p s      the bytes that an answer names: the first of its area
 --     Shows p s      they are the view, and the area has that many
 -- Assumes nothing.
-use Rattle.std.specs.Prelude.{cond, List, [], ◌≡◌, ℕ, ◌≤◌, eqb, take}
+use Rattle.std.specs.Prelude.{cond, List, [], ◌≡◌, ℕ, ◌≤◌, eqb, take, Ok, Err}
 use Rattle.std.proofs.Math.ListN as list
 use Rattle.capi.specs.declared.Part.{Part}
 use Rattle.capi.specs.Answers.{of_verdict}
 use Rattle.history.specs.State.{State, pixels, even, ready_verdict}
 use Rattle.history.specs.View.{view_of}
-use Rattle.verdict.specs.declared.Verdict.{Verdict}
-use Rattle.verdict.specs.declared.Verdict.TheVariants.{Accepted, Refused}
+use Rattle.verdict.specs.Rules.{Verdict}
 
 abbrev pub part_as : Verdict → State → Part
-part_as Accepted s = record { checked = of_verdict Accepted; area = cond (even s.job.passes) 1 2; length = pixels s.job }
-part_as (Refused r) s = record { checked = of_verdict (Refused r); area = 0; length = 0 }
+part_as (Ok _) s = record { checked = of_verdict (Ok tt); area = cond (even s.job.passes) 1 2; length = pixels s.job }
+part_as (Err r) s = record { checked = of_verdict (Err r); area = 0; length = 0 }
 
 unfoldable pub part_of : State → Part
 part_of s = part_as (ready_verdict s) s

@@ -1,5 +1,5 @@
 // The libraries' answers as C structs. Each starts with what is said of a refusal: number 0 is "accepted"; else all that follows is zero, but for
-// a quota, which comes back also where it is refused.
+// a quota, which comes back also where it is refused. Functions, and not `From`: capi/Answers and `tests/wrappers` know each by its name.
 ghost use Rattle.std.specs.Prelude.{◌≡◌};
 ghost use Rattle.capi.specs.Answers.{of_verdict, of_table_read, of_written, of_image_read, of_passed, of_figured, of_opened, of_metered};
 
@@ -7,14 +7,14 @@ use crate::{
     ChannelProgress, Checked, FiguresAnswer, FileLength, ImageSize, Progress, QuotaAnswer,
     TableAnswer,
 };
-use history::{Figured, Passed};
-use image::ImageRead;
+use history::{Effect, Figured, Passed};
+use image::size::Size;
 use job::channel::Metered;
 use job::quota::Opened;
-use table::TableRead;
-use verdict::{Verdict, Written};
+use table::Table;
+use verdict::{Refusal, Verdict, Written};
 
-// The number of an answer that refuses nothing.
+// What C gets for an answer that refuses nothing, and for a pass that changed pixels or none.
 const ACCEPTED: u32 = 0;
 
 const CHANGED: u32 = 0;
@@ -25,14 +25,14 @@ pub(crate) fn of_verdict(verdict: Verdict) -> Checked
     ensures { result ≡ of_verdict verdict }
 {
     match verdict {
-        Verdict::Accepted => Checked {
+        Ok(()) => Checked {
             number: ACCEPTED,
             place: 0,
             witness: 0,
             position: 0,
         },
-        Verdict::Refused(refusal) => Checked {
-            number: refusal.number,
+        Err(refusal) => Checked {
+            number: refusal.rule.number(),
             place: refusal.place,
             witness: refusal.witness,
             position: refusal.position,
@@ -40,14 +40,18 @@ pub(crate) fn of_verdict(verdict: Verdict) -> Checked
     }
 }
 
-pub(crate) fn of_table_read(read: TableRead) -> TableAnswer
+pub(crate) fn of_table_read(read: Result<Table, Refusal>) -> TableAnswer
     ensures { result ≡ of_table_read read }
 {
-    let verdict = read.verdict;
-    let table = read.table;
-    TableAnswer {
-        checked: of_verdict(verdict),
-        table,
+    match read {
+        Ok(table) => TableAnswer {
+            checked: of_verdict(Ok(())),
+            table,
+        },
+        Err(refusal) => TableAnswer {
+            checked: of_verdict(Err(refusal)),
+            table: table::empty(),
+        },
     }
 }
 
@@ -55,28 +59,28 @@ pub(crate) fn of_written(written: Written) -> FileLength
     ensures { result ≡ of_written written }
 {
     match written {
-        Written::Length(bytes) => FileLength {
-            checked: of_verdict(Verdict::Accepted),
+        Ok(bytes) => FileLength {
+            checked: of_verdict(Ok(())),
             length: bytes,
         },
-        Written::Refused(refusal) => FileLength {
-            checked: of_verdict(Verdict::Refused(refusal)),
+        Err(refusal) => FileLength {
+            checked: of_verdict(Err(refusal)),
             length: 0,
         },
     }
 }
 
-pub(crate) fn of_image_read(read: ImageRead) -> ImageSize
+pub(crate) fn of_image_read(read: Result<Size, Refusal>) -> ImageSize
     ensures { result ≡ of_image_read read }
 {
     match read {
-        ImageRead::Size { width, height } => ImageSize {
-            checked: of_verdict(Verdict::Accepted),
-            width,
-            height,
+        Ok(size) => ImageSize {
+            checked: of_verdict(Ok(())),
+            width: size.width,
+            height: size.height,
         },
-        ImageRead::Refused(refusal) => ImageSize {
-            checked: of_verdict(Verdict::Refused(refusal)),
+        Err(refusal) => ImageSize {
+            checked: of_verdict(Err(refusal)),
             width: 0,
             height: 0,
         },
@@ -87,16 +91,16 @@ pub(crate) fn of_passed(passed: Passed) -> Progress
     ensures { result ≡ of_passed passed }
 {
     match passed {
-        Passed::Changed => Progress {
-            checked: of_verdict(Verdict::Accepted),
+        Ok(Effect::Changed) => Progress {
+            checked: of_verdict(Ok(())),
             stable: CHANGED,
         },
-        Passed::Stable => Progress {
-            checked: of_verdict(Verdict::Accepted),
+        Ok(Effect::Stable) => Progress {
+            checked: of_verdict(Ok(())),
             stable: STABLE,
         },
-        Passed::Refused(refusal) => Progress {
-            checked: of_verdict(Verdict::Refused(refusal)),
+        Err(refusal) => Progress {
+            checked: of_verdict(Err(refusal)),
             stable: CHANGED,
         },
     }
@@ -106,13 +110,13 @@ pub(crate) fn of_figured(figured: Figured) -> FiguresAnswer
     ensures { result ≡ of_figured figured }
 {
     match figured {
-        Figured::Figures { balance, cover } => FiguresAnswer {
-            checked: of_verdict(Verdict::Accepted),
-            balance,
-            cover,
+        Ok(figures) => FiguresAnswer {
+            checked: of_verdict(Ok(())),
+            balance: figures.balance,
+            cover: figures.cover,
         },
-        Figured::Refused(refusal) => FiguresAnswer {
-            checked: of_verdict(Verdict::Refused(refusal)),
+        Err(refusal) => FiguresAnswer {
+            checked: of_verdict(Err(refusal)),
             balance: 0,
             cover: 0,
         },

@@ -2,7 +2,6 @@
 #![tactic(auto)]
 
 mod answers;
-mod calls;
 
 ghost use Rattle.std.specs.Prelude.{cond, ◌≡◌, length};
 ghost use Rattle.capi.specs.Answers.{of_verdict, of_table_read, of_written, of_image_read, of_passed, of_figured, of_opened, of_metered};
@@ -102,6 +101,7 @@ pub struct ChannelProgress {
     pub quota: Quota,
 }
 
+// How C is told the area.
 const FIRST: u32 = 1;
 
 const SECOND: u32 = 2;
@@ -175,9 +175,7 @@ pub extern "C" fn mask_load(
         × (first.new ≡ (load_state table (from_file file.now) (at job.old first.old second.now)).first)
         × ((load_state table (from_file file.now) (at job.old first.old second.now)).second ≡ second.now) }
 {
-    let s = calls::load(*job, table, file, first, second);
-    *job = s.job;
-    s.answer
+    answers::of_verdict(job::load(job, table, file, first, second))
 }
 
 #[unsafe(no_mangle)]
@@ -195,9 +193,7 @@ pub extern "C" fn mask_load_three(
         × (first.new ≡ (load_state table (from_three one.now two.now three.now) (at job.old first.old second.now)).first)
         × ((load_state table (from_three one.now two.now three.now) (at job.old first.old second.now)).second ≡ second.now) }
 {
-    let s = calls::load_three(*job, table, one, two, three, first, second);
-    *job = s.job;
-    s.answer
+    answers::of_verdict(job::load_three(job, table, one, two, three, first, second))
 }
 
 #[unsafe(no_mangle)]
@@ -214,9 +210,7 @@ pub extern "C" fn mask_load_strip(
         × (first.new ≡ (load_state table (from_strip strip pixels.now) (at job.old first.old second.now)).first)
         × ((load_state table (from_strip strip pixels.now) (at job.old first.old second.now)).second ≡ second.now) }
 {
-    let s = calls::load_strip(*job, table, strip, pixels, first, second);
-    *job = s.job;
-    s.answer
+    answers::of_verdict(job::load_strip(job, table, strip, pixels, first, second))
 }
 
 #[unsafe(no_mangle)]
@@ -226,9 +220,7 @@ pub extern "C" fn mask_pass(job: &mut Job, first: &mut [u8], second: &mut [u8]) 
         × (first.new ≡ (pass_of (at job.old first.old second.old)).state.first)
         × (second.new ≡ (pass_of (at job.old first.old second.old)).state.second) }
 {
-    let s = calls::pass(*job, first, second);
-    *job = s.job;
-    s.answer
+    answers::of_passed(job::pass(job, first, second))
 }
 
 #[unsafe(no_mangle)]
@@ -238,9 +230,7 @@ pub extern "C" fn mask_run(job: &mut Job, first: &mut [u8], second: &mut [u8]) -
         × (first.new ≡ (run_of (at job.old first.old second.old)).state.first)
         × (second.new ≡ (run_of (at job.old first.old second.old)).state.second) }
 {
-    let s = calls::run(*job, first, second);
-    *job = s.job;
-    s.answer
+    answers::of_passed(job::run(job, first, second))
 }
 
 // The part is named, not lent: C has both areas.
@@ -252,13 +242,13 @@ pub extern "C" fn mask_view<'a>(job: Job, first: &'a [u8], second: &'a [u8]) -> 
 {
     let checked = job::view_verdict(job, first, second);
     match checked {
-        Verdict::Refused(refusal) => Part {
-            checked: answers::of_verdict(Verdict::Refused(refusal)),
+        Err(refusal) => Part {
+            checked: answers::of_verdict(Err(refusal)),
             area: 0,
             length: 0,
         },
-        Verdict::Accepted => Part {
-            checked: answers::of_verdict(Verdict::Accepted),
+        Ok(()) => Part {
+            checked: answers::of_verdict(Ok(())),
             area: holder(job.passes),
             length: job.width * job.height,
         },
@@ -293,9 +283,7 @@ pub extern "C" fn mask_collect<'a>(
         × ((collect_state (length out.old) (at job.old first.now second.now)).first ≡ first.now)
         × ((collect_state (length out.old) (at job.old first.now second.now)).second ≡ second.now) }
 {
-    let s = calls::collect(*job, first, second, out);
-    *job = s.job;
-    s.answer
+    answers::of_written(job::collect(job, first, second, out))
 }
 
 #[unsafe(no_mangle)]
@@ -318,9 +306,7 @@ pub extern "C" fn mask_channel_pass(
         × (first.new ≡ (channel_pass_of quota channel (at job.old first.old second.old)).state.first)
         × (second.new ≡ (channel_pass_of quota channel (at job.old first.old second.old)).state.second) }
 {
-    let s = calls::channel_pass(*job, quota, channel, first, second);
-    *job = s.job;
-    s.answer
+    answers::of_metered(job::channel::pass(job, quota, channel, first, second))
 }
 
 #[unsafe(no_mangle)]
@@ -336,7 +322,5 @@ pub extern "C" fn mask_channel_run(
         × (first.new ≡ (channel_run_of quota channel (at job.old first.old second.old)).state.first)
         × (second.new ≡ (channel_run_of quota channel (at job.old first.old second.old)).state.second) }
 {
-    let s = calls::channel_run(*job, quota, channel, first, second);
-    *job = s.job;
-    s.answer
+    answers::of_metered(job::channel::run(job, quota, channel, first, second))
 }

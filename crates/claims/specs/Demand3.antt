@@ -9,13 +9,12 @@
 --     reload_accepted, reload_view, reload_counts, reload_answers     what an accepted collect wrote, loaded again
 --     exchanged, ordered, located     two jobs with one table and one size
 -- Assumes nothing.
-use Rattle.std.specs.Prelude.{true, List, ◌↔◌, ◌⊎◌, ◌≢◌, ◌≡◌, ℕ, ◌+◌, ◌*◌, ◌≤◌, ◌<◌, length, get_or, replicate, take}
+use Rattle.std.specs.Prelude.{true, List, ◌↔◌, ◌⊎◌, ◌≢◌, ◌≡◌, ℕ, ◌+◌, ◌*◌, ◌≤◌, ◌<◌, length, get_or, replicate, take, Ok, Err}
 use Rattle.std.proofs.Math.IntN.{sub_ℕ}
+use Rattle.history.specs.declared.Effect.TheVariants.{Stable}
 use Rattle.operator.specs.Image.{pixel, IsImage, black, added, removed, differs_at, exchange}
 use Rattle.operator.specs.Pass as operator
 use Rattle.history.proofs.Demand3.{demand_3}
-use Rattle.history.specs.declared.Figured.TheVariants.{Figures}
-use Rattle.history.specs.declared.Passed.TheVariants.{Stable}
 use Rattle.history.specs.Answered.{rest_if, figures_by, answered_by}
 use Rattle.history.specs.Call.{Call, load, pass, run, view, figures, collect, passed, shown, figured, collected, answer_of, state_of, refusal_of}
 use Rattle.history.specs.Demand3.{AfterList}
@@ -29,8 +28,7 @@ use Rattle.image.specs.Strip.{shape_verdict, strip_of}
 use Rattle.seq.specs.Lists.{one}
 use Rattle.table.specs.Record.{record_verdict}
 use Rattle.verdict.specs.declared.Refusal.{Refusal}
-use Rattle.verdict.specs.declared.Verdict.TheVariants.{Accepted, Refused}
-use Rattle.verdict.specs.declared.Written.TheVariants.{Length}
+use Rattle.verdict.specs.Rules.{number_of}
 use Rattle.verdict.specs.Writer.{over}
 
 abbrev pub course : List Call → List ℕ → List ℕ → Course
@@ -65,11 +63,11 @@ module _ (cs : List Call) (a b : List ℕ) where
     pub refused_by_history : refusal_of (answer_of c (state cs a b)) ≡ refused_by c (lengths_of (start a b).state) (course cs a b).history
     refused_by_history = (demand_3.after_list cs a b).refused c
 
-    pub never_14 : (r : Refusal) → refusal_of (answer_of c (state cs a b)) ≡ Refused r → r.number ≢ 14
+    pub never_14 : (r : Refusal) → refusal_of (answer_of c (state cs a b)) ≡ Err r → number_of r ≢ 14
     never_14 = (demand_3.after_list cs a b).never_14 c
 
     -- a channel's run that 24 stops on its way keeps its finished passes (claims/Rounds)
-    pub refused_unaltered : (r : Refusal) → barred_by c (lengths_of (start a b).state) (course cs a b).history ≡ Refused r
+    pub refused_unaltered : (r : Refusal) → barred_by c (lengths_of (start a b).state) (course cs a b).history ≡ Err r
         → state_of c (state cs a b) ≡ state cs a b
     refused_unaltered = (demand_3.after_list cs a b).unaltered c
 
@@ -84,11 +82,11 @@ module _ (cs : List Call) (a b : List ℕ) where
     pub height : (state cs a b).job.height ≡ e.height
     height = ((demand_3.after_list cs a b).agrees e h).height
 
-    pub table_accepted : record_verdict e.table ≡ Accepted
+    pub table_accepted : record_verdict e.table ≡ Ok tt
     table_accepted = ((demand_3.after_list cs a b).agrees e h).accepted
 
     -- the number of parts, and the size of each
-    pub size_accepted : shape_verdict (strip_of e.width e.parts) ≡ Accepted
+    pub size_accepted : shape_verdict (strip_of e.width e.parts) ≡ Ok tt
     size_accepted = ((demand_3.after_list cs a b).agrees e h).sized
 
     pub last_image : IsImage e.width e.height e.last
@@ -124,21 +122,21 @@ module _ (cs : List Call) (a b : List ℕ) where
     unfolding answered_by
     pass_answer = rw h at (answered_by_history pass)
 
-    pub view_answer : answer_of view (state cs a b) ≡ shown e.last Accepted
+    pub view_answer : answer_of view (state cs a b) ≡ shown e.last (Ok tt)
     unfolding answered_by
     view_answer = rw h at (answered_by_history view)
 
     pub figures_answer : answer_of figures (state cs a b)
-        ≡ figured (Figures (sub_ℕ (over_steps added e) (over_steps removed e)) (cover (black e.last) (e.width * e.height)))
+        ≡ figured (Ok (record { balance = sub_ℕ (over_steps added e) (over_steps removed e); cover = cover (black e.last) (e.width * e.height) }))
     unfolding answered_by figures_by
     figures_answer = rw h at (answered_by_history figures)
 
-    pub collect_answer : (out : List ℕ) → refused_by (collect out) (lengths_of (start a b).state) (holds e) ≡ Accepted
-        → answer_of (collect out) (state cs a b) ≡ collected (Length (length (files_of e))) (over (files_of e) out)
+    pub collect_answer : (out : List ℕ) → refused_by (collect out) (lengths_of (start a b).state) (holds e) ≡ Ok tt
+        → answer_of (collect out) (state cs a b) ≡ collected (Ok (length (files_of e))) (over (files_of e) out)
     unfolding answered_by
     collect_answer out ok = rw (h, ok) at (answered_by_history (collect out))
 
-    pub run_answer : answer_of run (state cs a b) ≡ passed Stable
+    pub run_answer : answer_of run (state cs a b) ≡ passed (Ok Stable)
     run_answer = ((demand_3.after_list cs a b).run_as_passes e h).answer
 
     pub run_as_passes : (n : ℕ) × (n ≤ e.width * e.height + 1) × (step run (course cs a b) ≡ play (replicate n pass) (course cs a b))
@@ -156,20 +154,20 @@ module _ (cs : List Call) (a b : List ℕ) where
           let r = demand_3.rests cs a b e h s in
           (r.passes, r.added, r.removed)
 
-      pub rest_answers : (answer_of pass (state cs a b) ≡ passed Stable) × (answer_of run (state cs a b) ≡ passed Stable)
+      pub rest_answers : (answer_of pass (state cs a b) ≡ passed (Ok Stable)) × (answer_of run (state cs a b) ≡ passed (Ok Stable))
       rest_answers =
           let r = demand_3.rests cs a b e h s in
           (r.pass_answer, r.run_answer)
 
     -- what an accepted collect wrote of a single image, loaded again with its table (of a strip: Strips)
-    module _ (single : length e.parts ≡ 1) (out : List ℕ) (m : ℕ) (after : List ℕ) (q : answer_of (collect out) (state cs a b) ≡ collected (Length m) after) where
+    module _ (single : length e.parts ≡ 1) (out : List ℕ) (m : ℕ) (after : List ℕ) (q : answer_of (collect out) (state cs a b) ≡ collected (Ok m) after) where
       abbrev again : Call
       again = load e.table (from_file (take m after))
 
       abbrev emptied : Course
       emptied = step (collect out) (course cs a b)
 
-      pub reload_accepted : refusal_of (answer_of again emptied.state) ≡ Accepted
+      pub reload_accepted : refusal_of (answer_of again emptied.state) ≡ Ok tt
       reload_accepted = (demand_3.reloaded cs a b out e m after h single q).accepted
 
       module _ (ds : List Call) (u : uncollected ds (step again emptied) ≡ true) where
@@ -184,7 +182,7 @@ module _ (cs : List Call) (a b : List ℕ) where
             let r = (demand_3.reloaded cs a b out e m after h single q).rests ds u in
             (r.passes, r.added, r.removed)
 
-        pub reload_answers : (answer_of pass later ≡ passed Stable) × (answer_of run later ≡ passed Stable)
+        pub reload_answers : (answer_of pass later ≡ passed (Ok Stable)) × (answer_of run later ≡ passed (Ok Stable))
         reload_answers =
             let r = (demand_3.reloaded cs a b out e m after h single q).rests ds u in
             (r.pass_answer, r.run_answer)

@@ -5,16 +5,16 @@
 --     figures_cover                                 figures shows the nearest thousandth of what view shows
 --     covers_computed                               each of the cases reads what is expected
 -- Assumes nothing.
-use Rattle.std.specs.Prelude.{map, ◌↔◌, ◌⊎◌, ◌≡◌, ℕ, ◌+◌, ◌*◌, ◌%◌, ◌≤◌, ◌<◌}
-use Rattle.history.proofs.Figures as figures
+use Rattle.std.specs.Prelude.{map, ◌↔◌, ◌⊎◌, ◌≡◌, ℕ, ◌+◌, ◌*◌, ◌%◌, ◌≤◌, ◌<◌, Ok}
+use Rattle.history.proofs.FiguresOf as figures
 use Rattle.history.proofs.Rounding.{nearest_is, nearest_only}
-use Rattle.history.specs.Answers.{figured_verdict, figured_cover}
+use Rattle.history.specs.Answers.{figured_cover}
 use Rattle.history.specs.Cases.{covers, covers_met}
 use Rattle.history.specs.Rounding.{nearest, Nearest}
 use Rattle.history.specs.State.{State}
 use Rattle.history.specs.View.{view_of, cover, figures_of}
 use Rattle.operator.specs.Image.{black}
-use Rattle.verdict.specs.declared.Verdict.TheVariants.{Accepted}
+use Rattle.verdict.specs.Answers.{verdict_of}
 
 module _ (a n : ℕ) (some : 0 < n) where
   pub nearest_above : 2 * (nearest a n * n) ≤ 2 * a + n
@@ -42,7 +42,7 @@ pub cover_all : (m : ℕ) → 0 < m → cover m m ≡ 1000
 cover_all = figures.cover_all
 
 -- of every record and areas, whoever made them
-pub figures_cover : (s : State) → figured_verdict (figures_of s) ≡ Accepted
+pub figures_cover : (s : State) → verdict_of (figures_of s) ≡ Ok tt
     → Nearest (1000 * black (view_of s)) (s.job.width * s.job.height) (figured_cover (figures_of s))
 figures_cover = figures.figures_nearest
 

@@ -7,7 +7,7 @@
 --     preview_is_plain                    the preview is the plain rule of the 56 five-point subsets of the eight neighbours
 --     again_answers, again_fills          a pass over slices with a table that was judged before
 -- Assumes nothing.
-use Rattle.std.specs.Prelude.{true, false, List, ◌≡◌, ℕ, suc, ◌+◌, ◌-◌, ◌*◌, ◌≤◌, ◌<◌, length, get_or}
+use Rattle.std.specs.Prelude.{true, false, List, ◌≡◌, ℕ, suc, ◌+◌, ◌-◌, ◌*◌, ◌≤◌, ◌<◌, length, get_or, Ok}
 use Rattle.operator.proofs.Counts.{all_counts}
 use Rattle.operator.proofs.Exchange.{exchange_passes}
 use Rattle.operator.proofs.Heijmans.{all_heijmans}
@@ -29,9 +29,8 @@ use Rattle.seq.specs.Lists.{count}
 use Rattle.seq.specs.Tab.{up_to}
 use Rattle.table.specs.declared.Table.{Table}
 use Rattle.table.specs.Record.{record_verdict}
-use Rattle.verdict.specs.declared.Verdict.TheVariants.{Accepted}
 
-module _ (t : Table) (w h : ℕ) (img : List ℕ) (ok : record_verdict t ≡ Accepted) (i : IsImage w h img) where
+module _ (t : Table) (w h : ℕ) (img : List ℕ) (ok : record_verdict t ≡ Ok tt) (i : IsImage w h img) where
   pub pass_is_image : (n : ℕ) → IsImage w h (passes t w h n img)
   pass_is_image = (all_counts t w h img ok i).image
 
@@ -88,7 +87,7 @@ pub preview_is_plain : (w h : ℕ) (img : List ℕ) → IsImage w h img → prev
 preview_is_plain = preview_plain
 
 -- a pass over slices with a table that was judged before
-module _ (t : Table) (w h : ℕ) (px area : List ℕ) (ok : record_verdict t ≡ Accepted) where
+module _ (t : Table) (w h : ℕ) (px area : List ℕ) (ok : record_verdict t ≡ Ok tt) where
   pub again_answers : again t w h px (length area) ≡ filtered t w h px (length area)
   again_answers = (all_again t w h px area ok).answer
 

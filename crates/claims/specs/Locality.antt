@@ -4,7 +4,7 @@
 --     six_needed     for some accepted table fewer will not do
 --     alone          a strip beside its parts cleaned alone
 -- Assumes nothing.
-use Rattle.std.specs.Prelude.{List, ◌⊎◌, ◌≡◌, ℕ, suc, ◌+◌, ◌*◌, ◌≤◌, ◌<◌, length, get_or, take, drop}
+use Rattle.std.specs.Prelude.{List, ◌⊎◌, ◌≡◌, ℕ, suc, ◌+◌, ◌*◌, ◌≤◌, ◌<◌, length, get_or, take, drop, Ok}
 use Rattle.image.specs.Parts.{rows_of}
 use Rattle.operator.proofs.Exact.{exact}
 use Rattle.operator.proofs.Locality.{locality, part_alone}
@@ -13,7 +13,6 @@ use Rattle.operator.specs.Pass.{passes}
 use Rattle.seq.specs.Lists.{sum_of}
 use Rattle.table.specs.declared.Table.{Table}
 use Rattle.table.specs.Record.{record_verdict}
-use Rattle.verdict.specs.declared.Verdict.TheVariants.{Accepted}
 
 -- images of w × h pixels that agree at every pixel within d × k rows and columns of another have one value at that one after k passes
 abbrev pub Far : ℕ → Table → Type 0
@@ -25,7 +24,7 @@ Far d t =
 pub six : (t : Table) → Far 6 t
 six = locality
 
-pub six_needed : (t : Table) × (record_verdict t ≡ Accepted) × ((d : ℕ) → Far d t → 6 ≤ d)
+pub six_needed : (t : Table) × (record_verdict t ≡ Ok tt) × ((d : ℕ) → Far d t → 6 ≤ d)
 six_needed = exact
 
 -- part i of a strip, cut into parts of the heights hs

@@ -10,7 +10,8 @@
 --     entry, job_exchanged, job_ordered     jobs that were loaded from three files
 --     bad_threes_computed                       02's sentences on refusals, computed
 -- Assumes nothing.
-use Rattle.std.specs.Prelude.{true, not, ◌&&◌, ◌||◌, List, [], ◌∷◌, ◌↔◌, ◌⊎◌, ◌≢◌, ◌≡◌, ℕ, ◌+◌, ◌*◌, ◌≤◌, ◌<◌, eqb, ltb, length, get_or}
+use Rattle.std.specs.Prelude.{true, not, ◌&&◌, ◌||◌, List, [], ◌∷◌, ◌↔◌, ◌⊎◌, ◌≢◌, ◌≡◌, ℕ, ◌+◌, ◌*◌, ◌≤◌, ◌<◌, eqb, ltb, length, get_or, Ok, Err}
+use Rattle.verdict.specs.declared.Rule.TheVariants as why
 use Rattle.history.proofs.Majority.{job_majority}
 use Rattle.history.specs.Call.{Call, load, answer_of, refusal_of}
 use Rattle.history.specs.Cases.{empty_with, bad_threes, parts, threes_met}
@@ -34,8 +35,7 @@ use Rattle.table.specs.declared.Table.{Table}
 use Rattle.table.specs.Record.{zero_table, record_verdict}
 use Rattle.verdict.specs.Answers.{said}
 use Rattle.verdict.specs.declared.Refusal.{Refusal}
-use Rattle.verdict.specs.declared.Verdict.TheVariants.{Accepted, Refused}
-use Rattle.verdict.specs.Rules.{refuse_if, judge}
+use Rattle.verdict.specs.Rules.{refuse_if, judge, number_of}
 
 pub record Three (w h : ℕ) (a b c : List ℕ) : Type 0 where
   pub first : IsImage w h a
@@ -54,7 +54,7 @@ module _ (w h : ℕ) (a b c : List ℕ) (i : Three w h a b c) where
   exchanged = (all_majority w h).exchanged a b c i.first i.second i.third
 
   -- what it rests as
-  pub rest_exchanged : (t : Table) → record_verdict t ≡ Accepted
+  pub rest_exchanged : (t : Table) → record_verdict t ≡ Ok tt
       → rested t w h (majority_of (exchange a) (exchange b) (exchange c)) ≡ exchange (rested t w h (majority_of a b c))
   rest_exchanged t ok = (all_majority_rest t w h ok).exchanged a b c i.first i.second i.third
 
@@ -64,7 +64,7 @@ module _ (w h : ℕ) (a b c : List ℕ) (i : Three w h a b c) where
     pub ordered : (k : ℕ) → k < length (majority_of a b c) → get_or (majority_of a b c) k 0 ≤ get_or (majority_of a' b' c') k 0
     ordered = (all_majority w h).ordered a b c a' b' c' i.first i.second i.third i'.first i'.second i'.third p q r
 
-    pub rest_ordered : (t : Table) → record_verdict t ≡ Accepted → (k : ℕ) → k < length (rested t w h (majority_of a b c))
+    pub rest_ordered : (t : Table) → record_verdict t ≡ Ok tt → (k : ℕ) → k < length (rested t w h (majority_of a b c))
         → get_or (rested t w h (majority_of a b c)) k 0 ≤ get_or (rested t w h (majority_of a' b' c')) k 0
     rest_ordered t ok =
         (all_majority_rest t w h ok).ordered a b c a' b' c' i.first i.second i.third i'.first i'.second i'.third p q r
@@ -74,21 +74,21 @@ module _ (t : Table) (f g h : List ℕ) where
   pub load_order : (s : State)
       → load_verdict t (from_three f g h) s
       ≡ judge (
-      refuse_if (unsound s) 14 0
-      ∷ refuse_if (not (eqb s.job.stage 0)) 15 0
+      refuse_if (unsound s) why.Unsound 0
+      ∷ refuse_if (not (eqb s.job.stage 0)) why.NotCollected 0
       ∷ record_verdict t
       ∷ file_verdict f
       ∷ file_verdict g
       ∷ file_verdict h
-      ∷ refuse_if (not (eqb (width_of g) (width_of f) && eqb (height_of g) (height_of f))) 26 2
-      ∷ refuse_if (not (eqb (width_of h) (width_of f) && eqb (height_of h) (height_of f))) 26 3
-      ∷ refuse_if (ltb (length s.first) (width_of f * height_of f) || ltb (length s.second) (width_of f * height_of f)) 13 0
+      ∷ refuse_if (not (eqb (width_of g) (width_of f) && eqb (height_of g) (height_of f))) why.SizesDiffer 2
+      ∷ refuse_if (not (eqb (width_of h) (width_of f) && eqb (height_of h) (height_of f))) why.SizesDiffer 3
+      ∷ refuse_if (ltb (length s.first) (width_of f * height_of f) || ltb (length s.second) (width_of f * height_of f)) why.AreaShort 0
       ∷ []
       )
   load_order = job_majority.order t f g h
 
   -- a file of the majority gives the same answer, and the same record, areas, history and tally
-  module _ (good : three_verdict f g h ≡ Accepted) where
+  module _ (good : three_verdict f g h ≡ Ok tt) where
     abbrev whole : List ℕ
     whole = image_bytes (width_of f) (height_of f) (majority_of (image_of f) (image_of g) (image_of h))
 
@@ -101,7 +101,7 @@ module _ (t : Table) (f g h : List ℕ) where
     pub entry : FromThree (entered t (from_three f g h)) f g h
     entry = job_majority.entry t f g h good
 
-  pub load_never_12 : (s : State) (r : Refusal) → refusal_of (answer_of (load t (from_three f g h)) s) ≡ Refused r → r.number ≢ 12
+  pub load_never_12 : (s : State) (r : Refusal) → refusal_of (answer_of (load t (from_three f g h)) s) ≡ Err r → number_of r ≢ 12
   load_never_12 = job_majority.never_12 t f g h
 
   -- files that differ in unused bits alone

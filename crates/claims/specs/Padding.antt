@@ -3,7 +3,7 @@
 --     load_ignored, load_course, load_never_12           load
 --     collected_zero                                     collect
 -- Assumes nothing.
-use Rattle.std.specs.Prelude.{true, List, ◌≢◌, ◌≡◌, ℕ, ◌<◌, length, take, drop}
+use Rattle.std.specs.Prelude.{true, List, ◌≢◌, ◌≡◌, ℕ, ◌<◌, length, take, drop, Ok, Err}
 use Rattle.history.proofs.Padding.{job_padding}
 use Rattle.history.specs.Call.{load, collect, collected, answer_of, refusal_of}
 use Rattle.history.specs.Lists.{Course, step}
@@ -15,8 +15,7 @@ use Rattle.image.specs.File.{image_verdict, image_read, image_area}
 use Rattle.image.specs.Padding.{unused_zero, cleared}
 use Rattle.table.specs.declared.Table.{Table}
 use Rattle.verdict.specs.declared.Refusal.{Refusal}
-use Rattle.verdict.specs.declared.Verdict.TheVariants.{Refused}
-use Rattle.verdict.specs.declared.Written.TheVariants.{Length}
+use Rattle.verdict.specs.Rules.{number_of}
 
 -- files that differ in unused bits alone: the same answer, refusals too, and the same area afterwards
 module _ (f g : List ℕ) (alike : cleared f ≡ cleared g) where
@@ -35,13 +34,13 @@ module _ (f g : List ℕ) (alike : cleared f ≡ cleared g) where
     load_course = job_padding.course t f g alike
 
 -- 12 never comes from a file
-pub never_12 : (f : List ℕ) (n : ℕ) (r : Refusal) → image_verdict f n ≡ Refused r → r.number ≢ 12
+pub never_12 : (f : List ℕ) (n : ℕ) (r : Refusal) → image_verdict f n ≡ Err r → number_of r ≢ 12
 never_12 = padding_ignored.never_12
 
-pub load_never_12 : (t : Table) (f : List ℕ) (s : State) (r : Refusal) → refusal_of (answer_of (load t (from_file f)) s) ≡ Refused r → r.number ≢ 12
+pub load_never_12 : (t : Table) (f : List ℕ) (s : State) (r : Refusal) → refusal_of (answer_of (load t (from_file f)) s) ≡ Err r → number_of r ≢ 12
 load_never_12 = job_padding.never_12
 
 -- what an accepted collect leaves at the front of its output: the file of each part
-pub collected_zero : (out : List ℕ) (s : State) (m : ℕ) (after : List ℕ) → answer_of (collect out) s ≡ collected (Length m) after
+pub collected_zero : (out : List ℕ) (s : State) (m : ℕ) (after : List ℕ) → answer_of (collect out) s ≡ collected (Ok m) after
     → (i : ℕ) → i < s.job.strip.parts → unused_zero (take (length (part_file s i)) (drop (part_start s i) (take m after))) ≡ true
 collected_zero = job_padding.collected_zero

@@ -5,7 +5,7 @@
 --     table_cases            records and files with the verdict that the words give, and files with their records
 -- Assumes nothing.
 use mathlib.Core.List.{List, Memᴰ}
-use Rattle.std.specs.Prelude.{◌≡◌, ℕ, suc, ◌≤◌, ◌<◌}
+use Rattle.std.specs.Prelude.{◌≡◌, ℕ, suc, ◌≤◌, ◌<◌, Ok}
 use Rattle.operator.proofs.Several.{any_alone}
 use Rattle.operator.specs.Pass.{opened}
 use Rattle.seq.specs.Lists.{any}
@@ -15,9 +15,8 @@ use Rattle.table.specs.declared.Table.{Table}
 use Rattle.table.specs.Cases.{Cases}
 use Rattle.table.specs.Ranks.{alone}
 use Rattle.table.specs.Record.{max_ranks, persistent_at, persistents, record_verdict}
-use Rattle.verdict.specs.declared.Verdict.TheVariants.{Accepted}
 
-module _ (t : Table) (ok : record_verdict t ≡ Accepted) where
+module _ (t : Table) (ok : record_verdict t ≡ Ok tt) where
   pub ranks_few : (1 ≤ t.ranks) × (t.ranks ≤ max_ranks)
   ranks_few = (accepted_ranks t ok).few
 
@@ -27,7 +26,7 @@ module _ (t : Table) (ok : record_verdict t ≡ Accepted) where
   pub ranks_zero_past : (r : ℕ) → t.ranks ≤ r → r < max_ranks → persistent_at t r ≡ 0
   ranks_zero_past = (accepted_ranks t ok).zero_past
 
-  pub each_alone : (K : ℕ) → Memᴰ K (persistents t) → record_verdict (alone t K) ≡ Accepted
+  pub each_alone : (K : ℕ) → Memᴰ K (persistents t) → record_verdict (alone t K) ≡ Ok tt
   each_alone = (accepted_ranks t ok).each_alone
 
 pub opened_by_any : (t : Table) (w h : ℕ) (img : List ℕ) (v r c : ℕ) → opened t w h img v r c ≡ any (λ K. opened (alone t K) w h img v r c) (persistents t)

@@ -9,19 +9,20 @@
 --     bad_strips_computed, bad_parts_computed              refused strips, and records whose parts are wrong, computed
 --     seam_counts, seam_files_computed            a strip whose one black pixel stands beside the seam, computed: its parts' counts, and its files
 -- Assumes nothing.
-use Rattle.std.specs.Prelude.{true, false, not, ◌||◌, ◌⊎◌, ◌≢◌, ◌≡◌, refl, ℕ, suc, ◌+◌, ◌*◌, ◌/◌, ◌≤◌, ◌<◌, eqb, length, get_or, take, drop, replicate}
+use Rattle.std.specs.Prelude.{true, false, not, ◌||◌, ◌⊎◌, ◌≢◌, ◌≡◌, refl, ℕ, suc, ◌+◌, ◌*◌, ◌/◌, ◌≤◌, ◌<◌, eqb, length, get_or, take, drop, replicate, Ok, Err}
 use mathlib.Core.List.{List, [], ◌∷◌, ◌++◌, map, Memᴰ}
+use Rattle.verdict.specs.declared.Rule.TheVariants as why
 use Rattle.std.proofs.Common.{sym, ◌∙◌}
 use Rattle.std.proofs.Math.Path.{ap}
 use Rattle.std.proofs.Math.Dec.{ltb}
 use Rattle.claims.specs.Demand3.{course, state}
 use Rattle.history.proofs.Demand1.{demand_1}
 use Rattle.history.proofs.Demand3.{demand_3}
-use Rattle.history.specs.declared.Passed.TheVariants.{Stable}
 use Rattle.history.specs.Call.{Call, load, pass, run, collect, passed, collected, answer_of, refusal_of}
 use Rattle.history.specs.Cases as cases
 use Rattle.history.specs.Cases.{empty_with, white, bad_strips, strips_met, part_job, sound_strip, sound_counts, bad_part_jobs, parts_unsound_met, seam_ran, seam_files, part_counts_met, part_files_met}
 use Rattle.history.specs.Collect as collecting
+use Rattle.history.specs.declared.Effect.TheVariants.{Stable}
 use Rattle.history.specs.Demand1.{quota_rule, unsound}
 use Rattle.history.specs.History.{Entry, holds}
 use Rattle.history.specs.Lists.{Course, step, play, uncollected, first_of, over_steps}
@@ -46,10 +47,7 @@ use Rattle.table.specs.declared.Table.{Table}
 use Rattle.table.specs.Record.{zero_table, record_verdict}
 use Rattle.verdict.proofs.Rules.{judge_append, judge_within}
 use Rattle.verdict.specs.Answers.{said}
-use Rattle.verdict.specs.declared.Verdict.{Verdict}
-use Rattle.verdict.specs.declared.Verdict.TheVariants.{Accepted, Refused}
-use Rattle.verdict.specs.declared.Written.TheVariants.{Length}
-use Rattle.verdict.specs.Rules.{refusal, refuse_if, refuse_at, judge}
+use Rattle.verdict.specs.Rules.{refusal, refuse_if, refuse_at, judge, Verdict}
 
 module _ (t : Table) (p : Strip) (px : List ℕ) (s : State) where
   abbrev w : ℕ
@@ -61,14 +59,14 @@ module _ (t : Table) (p : Strip) (px : List ℕ) (s : State) where
   pub load_order : load_verdict t (from_strip p px) s
       ≡ judge (
       sound_rule s
-      ∷ refuse_if (not (eqb s.job.stage 0)) 15 0
+      ∷ refuse_if (not (eqb s.job.stage 0)) why.NotCollected 0
       ∷ record_verdict t
-      ∷ refuse_if (not (within 16 p.parts)) 23 0
-      ∷ refuse_at (first (λ i. bad_size (get_or p.widths i 0) (get_or p.heights i 0)) p.parts) 10 suc
-      ∷ refuse_at (first (λ i. not (eqb (get_or p.widths i 0) w)) p.parts) 23 suc
-      ∷ refuse_if (not (eqb (length px) (w * h))) 11 0
-      ∷ refuse_at (first (λ i. ltb 1 (get_or px i 0)) (w * h)) 12 (λ i. i / w)
-      ∷ refuse_if (ltb (length s.first) (w * h) || ltb (length s.second) (w * h)) 13 0
+      ∷ refuse_if (not (within 16 p.parts)) why.Parts 0
+      ∷ refuse_at (first (λ i. bad_size (get_or p.widths i 0) (get_or p.heights i 0)) p.parts) why.SizeRange suc
+      ∷ refuse_at (first (λ i. not (eqb (get_or p.widths i 0) w)) p.parts) why.Parts suc
+      ∷ refuse_if (not (eqb (length px) (w * h))) why.RasterLength 0
+      ∷ refuse_at (first (λ i. ltb 1 (get_or px i 0)) (w * h)) why.PixelValue (λ i. i / w)
+      ∷ refuse_if (ltb (length s.first) (w * h) || ltb (length s.second) (w * h)) why.AreaShort 0
       ∷ []
       )
   unfolding load_verdict strip_verdict shape_verdict bytes_verdict
@@ -77,41 +75,41 @@ module _ (t : Table) (p : Strip) (px : List ℕ) (s : State) where
       ∙ judge_within (admit_rules t s) (shape_rules p ++ bytes_rules w h px) (area ∷ [])
     where
       area : Verdict
-      area = refuse_if (ltb (length s.first) (w * h) || ltb (length s.second) (w * h)) 13 0
+      area = refuse_if (ltb (length s.first) (w * h) || ltb (length s.second) (w * h)) why.AreaShort 0
 
-  pub strip_record : load_verdict t (from_strip p px) s ≡ Accepted
+  pub strip_record : load_verdict t (from_strip p px) s ≡ Ok tt
       → ((load_state t (from_strip p px) s).job.strip ≡ strip_of w (take p.parts p.heights)) × ((load_state t (from_strip p px) s).job.counts ≡ no_counts)
   unfolding load_state loaded_job
   strip_record e = rw e (refl, refl)
 
-pub single_record : (t : Table) (f : List ℕ) (s : State) → load_verdict t (from_file f) s ≡ Accepted
+pub single_record : (t : Table) (f : List ℕ) (s : State) → load_verdict t (from_file f) s ≡ Ok tt
     → ((load_state t (from_file f) s).job.strip ≡ strip_of (width_of f) (height_of f ∷ [])) × ((load_state t (from_file f) s).job.counts ≡ no_counts)
 unfolding load_state loaded_job
 single_record t f s e = rw e (refl, refl)
 
 -- 14 at stage 1 and 2, of the parts of any record; of a channel's call only 25 comes before it
-module _ (c : Call) (s : State) (rule : quota_rule c ≡ Accepted) (held : s.job.stage ≢ 0) (staged : s.job.stage ≤ 2) where
-  by_14 : Inconsistent s → refusal_of (answer_of c s) ≡ Refused (refusal 14 0)
-  by_14 x = demand_1.given c s 14 (unsound rule (held_wrong held staged x))
+module _ (c : Call) (s : State) (rule : quota_rule c ≡ Ok tt) (held : s.job.stage ≢ 0) (staged : s.job.stage ≤ 2) where
+  by_14 : Inconsistent s → refusal_of (answer_of c s) ≡ Err (refusal why.Unsound 0)
+  by_14 x = demand_1.given c s why.Unsound (unsound rule (held_wrong held staged x))
 
-  pub bad_shape : shape_verdict s.job.strip ≢ Accepted → refusal_of (answer_of c s) ≡ Refused (refusal 14 0)
+  pub bad_shape : shape_verdict s.job.strip ≢ Ok tt → refusal_of (answer_of c s) ≡ Err (refusal why.Unsound 0)
   bad_shape x = by_14 (wrong.bad_shape x)
 
-  pub other_width : s.job.width ≢ get_or s.job.strip.widths 0 0 → refusal_of (answer_of c s) ≡ Refused (refusal 14 0)
+  pub other_width : s.job.width ≢ get_or s.job.strip.widths 0 0 → refusal_of (answer_of c s) ≡ Err (refusal why.Unsound 0)
   other_width x = by_14 (wrong.other_width x)
 
-  pub other_height : s.job.height ≢ sum_of (take s.job.strip.parts s.job.strip.heights) → refusal_of (answer_of c s) ≡ Refused (refusal 14 0)
+  pub other_height : s.job.height ≢ sum_of (take s.job.strip.parts s.job.strip.heights) → refusal_of (answer_of c s) ≡ Err (refusal why.Unsound 0)
   other_height x = by_14 (wrong.other_height x)
 
   -- a place past the parts
   pub past_the_parts : (xs : List ℕ) → Memᴰ xs (s.job.strip.widths ∷ s.job.strip.heights ∷ s.job.counts.added ∷ s.job.counts.removed ∷ [])
-      → (v : ℕ) → Memᴰ v (drop s.job.strip.parts xs) → v ≢ 0 → refusal_of (answer_of c s) ≡ Refused (refusal 14 0)
+      → (v : ℕ) → Memᴰ v (drop s.job.strip.parts xs) → v ≢ 0 → refusal_of (answer_of c s) ≡ Err (refusal why.Unsound 0)
   past_the_parts xs m v k n = by_14 (wrong.past_the_parts xs m v k n)
 
-  pub other_added : s.job.added ≢ sum_of (padded s.job.counts.added) → refusal_of (answer_of c s) ≡ Refused (refusal 14 0)
+  pub other_added : s.job.added ≢ sum_of (padded s.job.counts.added) → refusal_of (answer_of c s) ≡ Err (refusal why.Unsound 0)
   other_added x = by_14 (wrong.other_added x)
 
-  pub other_removed : s.job.removed ≢ sum_of (padded s.job.counts.removed) → refusal_of (answer_of c s) ≡ Refused (refusal 14 0)
+  pub other_removed : s.job.removed ≢ sum_of (padded s.job.counts.removed) → refusal_of (answer_of c s) ≡ Err (refusal why.Unsound 0)
   other_removed x = by_14 (wrong.other_removed x)
 
 -- after every list of calls, where the history holds an entry
@@ -147,21 +145,21 @@ module _ (cs : List Call) (a b : List ℕ) (e : Entry) (q : (course cs a b).hist
   file_stands = ((demand_3.after_list cs a b).agrees e q).files.file
 
   pub file_back : (i : ℕ) → i < length e.parts
-      → (file_verdict (file i) ≡ Accepted) × (width_of (file i) ≡ e.width) × (height_of (file i) ≡ get_or e.parts i 0)
+      → (file_verdict (file i) ≡ Ok tt) × (width_of (file i) ≡ e.width) × (height_of (file i) ≡ get_or e.parts i 0)
       × (image_of (file i) ≡ part_of e.width e.parts i e.last)
   file_back i l =
       let r = ((demand_3.after_list cs a b).agrees e q).files.back i l in
       (r.accepted, r.width, r.height, r.pixels)
 
   -- after an accepted collect, the parts laid end to end again
-  module _ (out : List ℕ) (m : ℕ) (after : List ℕ) (wrote : answer_of (collect out) (state cs a b) ≡ collected (Length m) after) where
+  module _ (out : List ℕ) (m : ℕ) (after : List ℕ) (wrote : answer_of (collect out) (state cs a b) ≡ collected (Ok m) after) where
     abbrev again : Call
     again = load e.table (from_strip (strip_of e.width e.parts) e.last)
 
     abbrev emptied : Course
     emptied = step (collect out) (course cs a b)
 
-    pub relaid_accepted : refusal_of (answer_of again emptied.state) ≡ Accepted
+    pub relaid_accepted : refusal_of (answer_of again emptied.state) ≡ Ok tt
     relaid_accepted = (demand_3.relaid cs a b out e m after q wrote).accepted
 
     module _ (ds : List Call) (u : uncollected ds (step again emptied) ≡ true) where
@@ -176,7 +174,7 @@ module _ (cs : List Call) (a b : List ℕ) (e : Entry) (q : (course cs a b).hist
           let r = (demand_3.relaid cs a b out e m after q wrote).rests ds u in
           (r.passes, r.added, r.removed)
 
-      pub relaid_answers : (answer_of pass later ≡ passed Stable) × (answer_of run later ≡ passed Stable)
+      pub relaid_answers : (answer_of pass later ≡ passed (Ok Stable)) × (answer_of run later ≡ passed (Ok Stable))
       relaid_answers =
           let r = (demand_3.relaid cs a b out e m after q wrote).rests ds u in
           (r.pass_answer, r.run_answer)

@@ -4,75 +4,58 @@
 mod files;
 mod say;
 
-use history::{Job, Passed};
+use files::{Failure, Name};
+use history::Job;
 use image::size::MAX_PIXELS;
+use say::Line;
 use std::rt::Runtime;
-use table::Table;
-use verdict::{Verdict, Written};
+use verdict::Refusal;
 
 // One byte more than the longest accepted file, so that a longer one is refused as its whole self would be.
 const TABLE_ROOM: usize = table::MAX_FILE + 1;
 
 const SHEET_ROOM: usize = image::MAX_FILE + 1;
 
+// Why there is no clean image.
+#[derive(Drop)]
+enum Trouble {
+    Refused(Refusal),
+    Failed(Failure),
+}
+
+impl From<Refusal> for Trouble {
+    fn from(refusal: Refusal) -> Trouble {
+        Trouble::Refused(refusal)
+    }
+}
+
+impl From<Failure> for Trouble {
+    fn from(failure: Failure) -> Trouble {
+        Trouble::Failed(failure)
+    }
+}
+
 fn main(rt: HostRuntime) {
-    let mut file = [0u8; TABLE_ROOM];
-    let input = files::read(&rt, "table.mtb", &mut file);
-    if input.failed {
-        return;
-    }
-    let length = input.length;
-    let read = table::read(&file[..length]);
-    let verdict = read.verdict;
-    match verdict {
-        Verdict::Refused(refusal) => say::refused(&rt, refusal),
-        Verdict::Accepted => clean(&rt, read.table),
+    match clean(&rt) {
+        Ok(job) => say::print(&rt, Line::Cleaned(job)),
+        Err(Trouble::Refused(refusal)) => say::print(&rt, Line::Refused(refusal)),
+        Err(Trouble::Failed(failure)) => say::failure(&rt, &failure),
     }
 }
 
-fn area() -> [u8; MAX_PIXELS] {
-    [0u8; MAX_PIXELS]
-}
-
-fn clean<R: Runtime>(rt: &R, table: Table) {
-    let mut sheet = [0u8; SHEET_ROOM];
-    let input = files::read(rt, "sheet.pbm", &mut sheet);
-    if input.failed {
-        return;
-    }
-    let length = input.length;
-    let mut first = area();
-    let mut second = area();
-    let loaded = job::load_core(job::empty(), table, &sheet[..length], &mut first, &second);
-    let answer = loaded.answer;
-    match answer {
-        Verdict::Refused(refusal) => say::refused(rt, refusal),
-        Verdict::Accepted => run(rt, loaded.job, &mut first, &mut second),
-    }
-}
-
-fn run<R: Runtime>(rt: &R, loaded: Job, first: &mut [u8], second: &mut [u8]) {
-    let ran = job::run_core(loaded, first, second);
-    let answer = ran.answer;
-    match answer {
-        Passed::Refused(refusal) => say::refused(rt, refusal),
-        Passed::Changed => {}
-        Passed::Stable => collect(rt, ran.job, first, second),
-    }
-}
-
-fn collect<R: Runtime>(rt: &R, stable: Job, first: &[u8], second: &[u8]) {
+// A whole job; the record is that of the job at rest.
+fn clean<R: Runtime>(rt: &R) -> Result<Job, Trouble> {
+    let file = files::read(rt, Name::Table, TABLE_ROOM as u64)?;
+    let table = table::read(file.as_slice())?;
+    let sheet = files::read(rt, Name::Sheet, SHEET_ROOM as u64)?;
+    let mut first = [0u8; MAX_PIXELS];
+    let mut second = [0u8; MAX_PIXELS];
+    let mut job = job::empty();
+    job::load(&mut job, table, sheet.as_slice(), &mut first, &second)?;
+    job::run(&mut job, &mut first, &mut second)?;
+    let stable = job;
     let mut out = [0u8; SHEET_ROOM];
-    let collected = job::collect_core(stable, first, second, &mut out);
-    let answer = collected.answer;
-    match answer {
-        Written::Refused(refusal) => say::refused(rt, refusal),
-        Written::Length(length) => {
-            if length <= SHEET_ROOM {
-                if files::replace(rt, &out[..length]) {
-                    say::counts(rt, stable);
-                }
-            }
-        }
-    }
+    let length = job::collect(&mut job, &first, &second, &mut out)?;
+    files::replace(rt, &out[..length.min(SHEET_ROOM)])?;
+    Ok(stable)
 }

@@ -1,6 +1,5 @@
 -- The pass over a band of a tall image.
 --     Cut h from n a b, cut     the rows a to b of an image of h rows are a band of the rows from from to from + n, with six more on each side as far as there are
---     cut_start, cut_end        their places
 --     cut_room                  the band has room in memory
 --     cut_image                 the band is an image
 --     band_made                 the rows stand in its own next image
@@ -71,12 +70,6 @@ part_over file out i n l =
     ∙ take-append-le n (drop i file) (drop (length file) out) (omega (arith, length-drop i file))
 
 module _ {t : Table} {w h from n a b : ℕ} {px : List ℕ} (tall : Tall t w h px) (c : Cut h from n a b) where
-  pub cut_start : w * a ≤ w * b
-  cut_start = mul-le-mul_left w (omega arith)
-
-  pub cut_end : w * b ≤ length px
-  cut_end = omega (arith, mul-le-mul_left w c.within, tall.image.sized)
-
   pub cut_room : w * (b - a) ≤ band_pixels
   cut_room = mul-le-mul tall.narrow c.few
 

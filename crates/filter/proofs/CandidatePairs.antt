@@ -1,8 +1,8 @@
 -- Pairs of positions of elements, and their shifts.
 --     Met e f p x                            x is a position of the element e if one of f 0, .., f (p − 1) is
---     met_none, met_yes, met_no, met_all     where a search by f stands: at the start, after a position, after another one, at the end
+--     met_yes, met_no, met_all     where a search by f stands: after a position, after another one, at the end
 --     among_at                               a pair that is found among the shifts
---     added_none, added_more                 an element's pair that is among them, and one that is added
+--     added_more                 an element's pair that is added
 --     even_more                              the last pair again
 -- Assumes nothing.
 use mathlib.Core.Bool.{true, false}
@@ -26,9 +26,6 @@ pub record Met (e : ℕ) (f : ℕ → ℕ) (p x : ℕ) : Type 0 where
   pub met : (q : ℕ) → q < p → bit e (f q) ≡ true → Memᴰ x (positions e)
 
 module _ (e : ℕ) (f : ℕ → ℕ) where
-  pub met_none : (x : ℕ) → Met e f 0 x
-  met_none x = record { met = λ q l. absurd (omega arith) }
-
   pub met_yes : (p : ℕ) {x : ℕ} → x < position_count → bit e x ≡ true → Met e f (p + 1) x
   met_yes p l b = record { met = λ q i t. position_intro e l b }
 
@@ -54,18 +51,6 @@ among_pair : {at : List ℕ} {n a b e x y : ℕ} → Among at n a b → n ≤ le
     → (i : ℕ) × (2 * i + 1 < n) × Pair at i e
 among_pair m h t p q =
     (m.place, m.room, record { room = omega (arith, m.room); low = (_, t.low, m.low ∙ p); high = (_, t.high, m.high ∙ q) })
-
-pub added_none : {d : List ℕ} {n a b e x y : ℕ} → n % 2 ≡ 0 → n ≤ length d → Among d n a b → TwoOf e x y → a ≡ shift x → b ≡ shift y → Added e d d n n
-added_none h l m t p q =
-    record {
-      long = refl;
-      even = h;
-      more = omega arith;
-      few = omega arith;
-      kept = λ j i. refl;
-      near = λ j i k. absurd (omega arith);
-      has = among_pair m l t p q;
-    }
 
 -- two shifts more
 module _ (d : List ℕ) (n : ℕ) (h : n + 2 ≤ length d) (a b : ℕ) where

@@ -1,34 +1,23 @@
 -- What the candidates are swept by: the only element's shifts, or a pair of each element.
---     swept_take                          a list's front that is copied
 --     parts_only                          the shifts of the only element
 --     Paired es at n                      the first n shifts are pairs, and each element of es has one among them
---     paired_none, paired_more            where a loop over the elements stands
+--     paired_more            where a loop over the elements stands
 --     parts_paired                        the pairs, the last again where their number is odd
 -- Assumes nothing.
 use mathlib.Core.List.Memᴰ
 use mathlib.Core.List.{List, Memᴰ}
 use mathlib.Core.Logic.{⊎_elim}
-use mathlib.Core.Path.{◌≡◌, refl, sym, ◌∙◌, subst}
+use mathlib.Core.Path.{◌≡◌, sym, ◌∙◌, subst}
 use Prim.Native.Nat.{ℕ, ◌+◌, ◌*◌, ◌%◌, ◌≤◌, ◌<◌}
 use native.Mathlib.Numerals.{add-one}
 use native.Mathlib.Omega.{arith}
 use lib.ListN.{length, get_or, take}
-use lib.Seq.{length-take-le, take-suc, get_or-take, ext_get_or}
-use Rattle.seq.specs.Loops.{Swept}
+use lib.Seq.{length-take-le, take-suc, get_or-take}
 use Rattle.seq.proofs.Members.{take_place}
 use Rattle.seq.proofs.Tests.{lt_or_le}
 use Rattle.filter.specs.Code.Candidate.{Pair, Added, Evened, Parts}
 use Rattle.filter.specs.Code.Opening.{farthest, Shifts}
 use Rattle.filter.proofs.ShiftLaws.{shifts_fours}
-
--- a list's front that is copied
-pub swept_take : (own : List ℕ) {d l : List ℕ} (n : ℕ) {i : ℕ} → Swept (λ j. get_or own j 0) d l 0 i → i ≡ n → (n ≤ length own) × (n ≤ length d) → take n l ≡ take n own
-swept_take own {d} {l} n s e h =
-    ext_get_or 0 (take n l) (take n own) (long ∙ sym (length-take-le n own h.0))
-    (λ j k. let b : j < n = rw long at k in get_or-take n l j 0 b ∙ s.inner j (omega arith) (omega arith) ∙ sym (get_or-take n own j 0 b))
-  where
-    long : length (take n l) ≡ n
-    long = length-take-le n l (rw s.long h.1)
 
 pub parts_only : (es at : List ℕ) → length es ≡ 1 → Shifts (get_or es 0 0) at → Parts es at
 parts_only es at h s = record { fours = shifts_fours (get_or es 0 0) s; alone = λ q. s.only; each = λ q. absurd (q h) }
@@ -37,9 +26,6 @@ pub record Paired (es at : List ℕ) (n : ℕ) : Type 0 where
   pub even : n % 2 ≡ 0
   pub near : (j : ℕ) → j < n → get_or at j 0 ≤ farthest
   pub each : (e : ℕ) → Memᴰ e es → (i : ℕ) × (2 * i + 1 < n) × Pair at i e
-
-pub paired_none : (es at : List ℕ) → Paired (take 0 es) at 0
-paired_none es at = record { even = refl; near = λ j l. absurd (omega arith); each = λ e m. absurd (Memᴰ.not-nil m) }
 
 -- a pair stands in any list that has the same shifts there
 pair_keep : {d f : List ℕ} {n i e : ℕ} → n ≤ length f → ((j : ℕ) → j < n → get_or f j 0 ≡ get_or d j 0) → 2 * i + 1 < n → Pair d i e → Pair f i e

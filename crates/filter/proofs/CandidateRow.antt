@@ -1,6 +1,6 @@
 -- Where the loop over the bytes of a row of candidates stands.
 --     Narrowing hit map from plane at d f to n seen     the first n bytes of the row are stored, and they are 0 where seen is
---     narrow_none, narrow_more, narrow_all              its start, one store, its end
+--     narrow_more, narrow_all              one store, its end
 -- Assumes nothing.
 use mathlib.Core.Bool.{Bool, true, false, not, ◌&&◌}
 use mathlib.Core.List.{List}
@@ -36,16 +36,6 @@ module _ (hit map : List ℕ) (from : ℕ) (plane : List ℕ) (at : ℕ) where
     pub none : seen ≡ 0 → (k : ℕ) → k < n → get_or f (to + k) 0 ≡ 0
     pub before : (j : ℕ) → j < to → get_or f j 0 ≡ get_or d j 0
     pub after : (j : ℕ) → to + n ≤ j → get_or f j 0 ≡ get_or d j 0
-
-  pub narrow_none : (d : List ℕ) (to : ℕ) → Narrowing d d to 0 0
-  narrow_none d to =
-      record {
-        long = refl;
-        coded = λ k l v i. absurd (omega arith);
-        none = λ z k i. absurd (omega arith);
-        before = λ j i. refl;
-        after = λ j i. refl;
-      }
 
   -- byte k's codes that are not opened, before they are those of the other value
   abbrev pub closed : ℕ → ℕ

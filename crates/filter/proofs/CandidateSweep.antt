@@ -1,12 +1,12 @@
 -- The candidates cover what is held.
---     hold_none, hold_more, hold_all    a sweep by pairs of shifts: at the start, by two pairs more, at the end
+--     hold_more    a sweep by pairs of shifts: by two pairs more
 --     held_eroded, held_joined          what an element holds is a candidate: of the only element, and of several
 -- Assumes nothing.
 use mathlib.Core.Bool.{Bool, true, ◌&&◌, ◌||◌}
 use mathlib.Core.List.{List, Memᴰ}
 use mathlib.Core.Logic.{⊎_elim}
 use mathlib.Core.Path.{◌≡◌, ap, ◌∙◌}
-use Prim.Native.Nat.{ℕ, ◌+◌, ◌*◌, ◌/◌, ◌%◌, ◌≤◌, ◌<◌}
+use Prim.Native.Nat.{ℕ, ◌+◌, ◌-◌, ◌*◌, ◌/◌, ◌%◌, ◌<◌}
 use native.Mathlib.Nat.{eq-or-lt_of_le}
 use native.Mathlib.Omega.{arith}
 use lib.ListN.{length, get_or}
@@ -19,46 +19,43 @@ use Rattle.seq.proofs.Lists.{and_intro, or_left, or_right, any_elim, all_elim, a
 use Rattle.seq.proofs.Members.{take_place}
 use Rattle.seq.proofs.Tests.{lt_or_le}
 use Rattle.table.specs.Mask.{positions}
-use Rattle.filter.specs.Code.Candidate.{Parts, pairs_of, Joined}
+use Rattle.filter.specs.Code.Candidate.{Parts, paired, Joined}
 use Rattle.filter.specs.Code.Opening.{shift, held_within}
-use Rattle.filter.specs.Code.Sweep.{Eroded}
+use Rattle.filter.specs.Code.Sweep.{Eroded, woven4}
 
 module _ {at : List ℕ} {size : ℕ} {l : List ℕ} where
-  pub hold_none : (f : List ℕ) → Joined at 0 size l f
-  hold_none f = record { coded = λ i j s a. absurd (omega arith) }
-
-  pub hold_all : {f : List ℕ} {i : ℕ} → Joined at i size l f → length at ≤ i → Joined at (length at) size l f
-  hold_all r h = record { coded = λ i j s a. r.coded i j s (omega arith) }
-
-  pub hold_more : {f g : List ℕ} (i : ℕ) → Joined at i size l f → i % 4 ≡ 0
-      → Swept (pairs_of l (get_or at i 0) (get_or at (i + 1) 0) (get_or at (i + 2) 0) (get_or at (i + 3) 0) f) f g 0 size → Joined at (i + 4) size l g
-  hold_more {f} {g} i r h w = record { coded = coded }
+  pub hold_more : {f g : List ℕ} (p : List ℕ) (i : ℕ) → Joined at i size l f → i % 4 ≡ 0 → ((j : ℕ) → j < 4 → get_or p j 0 ≡ get_or at (i + j) 0)
+      → Swept (woven4 paired l p 0 f) f g 0 (0 + size) → Joined at (i + 4) size l g
+  hold_more {f} {g} p i r h q w = record { coded = coded }
     where
       has : ℕ → ℕ → ℕ → Bool
       has k j s = bit (get_or l (get_or at k 0 + j) 0) s
 
       bits : (j s : ℕ) → j < size → bit (get_or g j 0) s ≡ (bit (get_or f j 0) s || ((has i j s && has (i + 1) j s) || (has (i + 2) j s && has (i + 3) j s)))
-      bits j s a = ap (λ (x : ℕ). bit x s) (w.inner j (omega arith) a) ∙ simp (bit_or_lem, bit_and_lem)
+      bits j s a =
+          let z : j - 0 ≡ j = omega arith in
+          let o : i + 0 ≡ i = omega arith in
+          rw (w.inner j (omega arith) (omega arith), z, q 0 (omega arith), q 1 (omega arith), q 2 (omega arith), q 3 (omega arith), o) (simp (bit_or_lem, bit_and_lem))
 
       coded : (k j s : ℕ) → 2 * k + 1 < i + 4 → j < size → has (2 * k) j s ≡ true → has (2 * k + 1) j s ≡ true → bit (get_or g j 0) s ≡ true
-      coded k j s a b p q = bits j s b ∙ ⊎_elim old (λ c. ⊎_elim first second (eq-or-lt_of_le c)) (lt_or_le k (2 * (i / 4)))
+      coded k j s a b t u = bits j s b ∙ ⊎_elim old (λ c. ⊎_elim first second (eq-or-lt_of_le c)) (lt_or_le k (2 * (i / 4)))
         where
           new : Bool
           new = (has i j s && has (i + 1) j s) || (has (i + 2) j s && has (i + 3) j s)
 
           old : k < 2 * (i / 4) → (bit (get_or f j 0) s || new) ≡ true
-          old c = or_left new (r.coded k j s (omega arith) b p q)
+          old c = or_left new (r.coded k j s (omega arith) b t u)
 
           first : 2 * (i / 4) ≡ k → (bit (get_or f j 0) s || new) ≡ true
           first c =
               let e : 2 * k ≡ i = omega arith in
-              or_right (bit (get_or f j 0) s) (or_left (has (i + 2) j s && has (i + 3) j s) (and_intro (rw e at p) (rw e at q)))
+              or_right (bit (get_or f j 0) s) (or_left (has (i + 2) j s && has (i + 3) j s) (and_intro (rw e at t) (rw e at u)))
 
           second : 2 * (i / 4) < k → (bit (get_or f j 0) s || new) ≡ true
           second c =
               let e : 2 * k ≡ i + 2 = omega arith in
               let e' : 2 * k + 1 ≡ i + 3 = omega arith in
-              or_right (bit (get_or f j 0) s) (or_right (has i j s && has (i + 1) j s) (and_intro (rw e at p) (rw e' at q)))
+              or_right (bit (get_or f j 0) s) (or_right (has i j s && has (i + 1) j s) (and_intro (rw e at t) (rw e' at u)))
 
 -- the only element of a table
 mem_alone : (es : List ℕ) (e : ℕ) → length es ≡ 1 → Memᴰ e es → e ≡ get_or es 0 0

@@ -4,9 +4,10 @@
 --     admit_table, admit_strip, admit_short, admit_all     what is refused, and the size
 --     Crossing t p px n, crossing                     what is known of a strip that is not refused
 --     parts_few, parts_total                          what the parts change is what the strip changes
---     cross_full, cross_made                          there is no room, or the pass is made
+--     cross_made                          the pass is made
 --     pass_refused, pass_crossed                      the answer, and the area
 -- Assumes nothing.
+use Rattle.std.specs.Prelude.{Ok, Err, Result}
 use mathlib.Core.Bool.{Bool, true, false, cond}
 use mathlib.Core.List.{List}
 use mathlib.Core.Path.{◌≡◌, refl, sym, ap, ◌∙◌}
@@ -18,9 +19,11 @@ use lib.ListN.{length}
 use Rattle.filter.specs.declared.Crossed.{Crossed}
 use Rattle.filter.specs.declared.End.TheVariants as ending
 use Rattle.filter.specs.Code.Strip.{Tall, totalled}
-use Rattle.filter.specs.Crossed.{cross_verdict, across, overfull, uncrossed, crossed_if, crossed, crossed_area}
+use Rattle.filter.specs.Crossed.{cross_verdict, across, overfull, crossed_if, crossed, crossed_area}
+use Rattle.verdict.specs.declared.Rule.TheVariants as why
 use Rattle.filter.proofs.StripLaws.{area_few}
-use Rattle.image.specs.declared.ImageRead.TheVariants as read
+use Rattle.image.specs.Answers.{read_width, read_height}
+use Rattle.image.specs.declared.size.Size.{Size}
 use Rattle.image.specs.declared.strip.PartCounts.{PartCounts}
 use Rattle.image.specs.declared.strip.Strip.{Strip}
 use Rattle.image.specs.File.{area_rule, read_as}
@@ -40,34 +43,32 @@ use Rattle.seq.proofs.Lists.{clash}
 use Rattle.table.specs.declared.Table.{Table}
 use Rattle.table.specs.Record.{record_verdict}
 use Rattle.verdict.specs.declared.Refusal.{Refusal}
-use Rattle.verdict.specs.declared.Verdict.{Verdict}
-use Rattle.verdict.specs.declared.Verdict.TheVariants.{Accepted, Refused}
-use Rattle.verdict.specs.Rules.{refusal}
+use Rattle.verdict.specs.Rules.{refusal, Verdict}
 use Rattle.verdict.specs.Writer.{over}
 use Rattle.verdict.proofs.Rules.{or_else_left, or_else_right, refuse_if_accepted}
 
-pub read_size : (v : Verdict) {W H w h : ℕ} → read_as v W H ≡ read.Size w h → (v ≡ Accepted) × (w ≡ W) × (h ≡ H)
-read_size Accepted e = (refl, cc, cc)
-read_size (Refused x) e = let z : ◌≡◌ {A = ℕ} 0 1 = cc in absurd (omega arith)
+pub read_size : (v : Verdict) {W H : ℕ} {s : Size} → read_as v W H ≡ Ok s → (v ≡ Ok tt) × (s.width ≡ W) × (s.height ≡ H)
+read_size (Ok _) e = (refl, sym (ap read_width e), sym (ap read_height e))
+read_size (Err x) e = let z : ◌≡◌ {A = ℕ} 0 1 = cc in absurd (omega arith)
 
-pub read_refused : (v : Verdict) (W H : ℕ) {x : Refusal} → read_as v W H ≡ read.Refused x → v ≡ Refused x
-read_refused Accepted W H e = let z : ◌≡◌ {A = ℕ} 0 1 = cc in absurd (omega arith)
-read_refused (Refused y) W H e = cc
+pub read_refused : (v : Verdict) (W H : ℕ) {x : Refusal} → read_as v W H ≡ Err x → v ≡ Err x
+read_refused (Ok _) W H e = let z : ◌≡◌ {A = ℕ} 0 1 = cc in absurd (omega arith)
+read_refused (Err y) W H e = cc
 
 module _ (t : Table) (p : Strip) (px : List ℕ) where
   module _ (n : ℕ) where
-    pub admit_table : {x : Refusal} → record_verdict t ≡ Refused x → read.Refused x ≡ read_as (cross_verdict t p px n) (strip_width p) (strip_height p)
+    pub admit_table : {x : Refusal} → record_verdict t ≡ Err x → Err x ≡ read_as (cross_verdict t p px n) (strip_width p) (strip_height p)
     unfolding cross_verdict
     admit_table e = sym (rw e)
 
-    module _ (ok : record_verdict t ≡ Accepted) where
-      pub admit_strip : {x : Refusal} → strip_verdict p px ≡ Refused x
-          → read_as (strip_verdict p px) (strip_width p) (strip_height p) ≡ read_as (cross_verdict t p px n) (strip_width p) (strip_height p)
+    module _ (ok : record_verdict t ≡ Ok tt) where
+      pub admit_strip : {x : Refusal} → strip_verdict p px ≡ Err x
+          → Err x ≡ read_as (cross_verdict t p px n) (strip_width p) (strip_height p)
       unfolding cross_verdict
       admit_strip e = rw (ok, e)
 
-      module _ (good : strip_verdict p px ≡ Accepted) where
-        pub admit_short : n < strip_width p * strip_height p → read.Refused (refusal 13 0) ≡ read_as (cross_verdict t p px n) (strip_width p) (strip_height p)
+      module _ (good : strip_verdict p px ≡ Ok tt) where
+        pub admit_short : n < strip_width p * strip_height p → Err (refusal why.AreaShort 0) ≡ read_as (cross_verdict t p px n) (strip_width p) (strip_height p)
         unfolding cross_verdict
         admit_short l = sym (rw (ok, good, lt-ltb n (strip_width p * strip_height p) l))
 
@@ -76,7 +77,7 @@ module _ (t : Table) (p : Strip) (px : List ℕ) where
         unfolding cross_verdict
         admit_all l = rw (ok, good, le-ltb n (strip_width p * strip_height p) l)
 
-  pub strip_tall : record_verdict t ≡ Accepted → strip_verdict p px ≡ Accepted → Tall t (strip_width p) (strip_height p) px
+  pub strip_tall : record_verdict t ≡ Ok tt → strip_verdict p px ≡ Ok tt → Tall t (strip_width p) (strip_height p) px
   strip_tall ok good =
       let g = strip_good p px good in
       let side = shape_wide g.shape in
@@ -89,7 +90,7 @@ pub record Crossing (t : Table) (p : Strip) (px : List ℕ) (n : ℕ) : Type 0 w
   pub parts : p.parts ≤ max_parts
   pub room : strip_width p * strip_height p ≤ n
 
-pub crossing : (t : Table) (p : Strip) (px : List ℕ) (n : ℕ) → cross_verdict t p px n ≡ Accepted → Crossing t p px n
+pub crossing : (t : Table) (p : Strip) (px : List ℕ) (n : ℕ) → cross_verdict t p px n ≡ Ok tt → Crossing t p px n
 unfolding cross_verdict
 crossing t p px n e =
     let after = or_else_right (record_verdict t) _ e in
@@ -98,7 +99,7 @@ crossing t p px n e =
     record {
       tall = strip_tall t p px (or_else_left (record_verdict t) _ e) good;
       parts = (strip_good p px good).shape.few;
-      room = ltb-false n (strip_width p * strip_height p) (refuse_if_accepted (ltb n (strip_width p * strip_height p)) 13 0 area);
+      room = ltb-false n (strip_width p * strip_height p) (refuse_if_accepted (ltb n (strip_width p * strip_height p)) why.AreaShort 0 area);
     }
 
 -- what the parts change together is what the strip changes
@@ -142,9 +143,6 @@ module _ (p : Strip) (room : ℕ) (px next area : List ℕ) where
   abbrev Answered : Crossed → List ℕ → Type 0
   Answered r after = (r ≡ crossed_if (overfull room px next) p px next) × (after ≡ cond (overfull room px next) area (over next area))
 
-  pub cross_full : overfull room px next ≡ true → {r : Crossed} → r ≡ uncrossed ending.Full → Answered r area
-  cross_full e q = (q ∙ sym (rw e), sym (rw e))
-
   pub cross_made : overfull room px next ≡ false → {w : ℕ} → w ≡ strip_width p → {r : Crossed} {after : List ℕ}
       → r ≡ record { added = added px next; removed = removed px next; parts = part_counts w (heights_of p) px next; end = cond (differs px next) ending.Limit ending.Stable }
       → after ≡ over next area → Answered r after
@@ -152,14 +150,14 @@ module _ (p : Strip) (room : ℕ) (px next area : List ℕ) where
 
 -- the answer, and the area
 module _ (t : Table) (p : Strip) (room : ℕ) (px area : List ℕ) where
-  abbrev Passed : Crossed → List ℕ → Type 0
+  abbrev Passed : Result Crossed Refusal → List ℕ → Type 0
   Passed r after = (r ≡ crossed t p room px (length area)) × (after ≡ crossed_area t p room px area)
 
-  pub pass_refused : {x : Refusal} → cross_verdict t p px (length area) ≡ Refused x → {r : Crossed} → r ≡ uncrossed (ending.Refused x) → Passed r area
+  pub pass_refused : {x : Refusal} → cross_verdict t p px (length area) ≡ Err x → Passed (Err x) area
   unfolding crossed crossed_area
-  pass_refused e q = (q ∙ sym (rw e), sym (rw e))
+  pass_refused e = (sym (rw e), sym (rw e))
 
-  pub pass_crossed : cross_verdict t p px (length area) ≡ Accepted → {r : Crossed} {after : List ℕ}
-      → Answered p room px (pass t (strip_width p) (strip_height p) px) area r after → Passed r after
+  pub pass_crossed : cross_verdict t p px (length area) ≡ Ok tt → {r : Crossed} {after : List ℕ}
+      → Answered p room px (pass t (strip_width p) (strip_height p) px) area r after → Passed (Ok r) after
   unfolding crossed crossed_area across
-  pass_crossed e a = (a.0 ∙ sym (rw e), a.1 ∙ sym (rw e))
+  pass_crossed e a = (ap Ok a.0 ∙ sym (rw e), a.1 ∙ sym (rw e))

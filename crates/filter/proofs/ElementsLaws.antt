@@ -1,12 +1,10 @@
 -- The element test: a window as a mask, and elements against it.
 --     row_bits row v            which values of a row have bit v, as five bits
---     row_fits, row_bits_lem       the code's way from five bytes to five bits
+--     row_bits_lem       the code's way from five bytes to five bits
 --     mask_bits                the rows' bits, one row above the other, are those of the window
---     one_eqb                  a truth value that is kept as 1 or 0
---     any_found, any_passed    one element more is looked at, and passes or not
 --     matched_within           elements against the mask of a window
 -- Assumes nothing.
-use mathlib.Core.Bool.{Bool, true, false, ◌||◌, or-false}
+use mathlib.Core.Bool.{Bool, true}
 use mathlib.Core.List.{List, [], ◌∷◌}
 use mathlib.Core.Path.{◌≡◌, refl, sym, ap, ap₂, ◌∙◌}
 use Prim.Native.Nat.{ℕ, zero, suc, ◌+◌, ◌*◌, ◌/◌, ◌%◌, ◌^◌, ◌<◌}
@@ -14,7 +12,7 @@ use native.Mathlib.Omega.{arith}
 use borrow.Author.Tests.{eqb-true}
 use lib.Bits.{bit_and, and_block, and_mask, and_zero_r}
 use lib.Dec.{eqb}
-use lib.ListN.{length, get_or, take}
+use lib.ListN.{get_or}
 use Rattle.operator.specs.Preview.{from_bits}
 use Rattle.operator.specs.Window.{window_at}
 use Rattle.seq.specs.Bits.{bit}
@@ -23,8 +21,7 @@ use Rattle.seq.specs.Tab.{tab, up_to}
 use Rattle.table.specs.Mask.{position_count, largest_mask, positions, valid_mask}
 use Rattle.operator.proofs.Pattern.{bits_tab}
 use Rattle.seq.proofs.Bits.{one_digit, all_and}
-use Rattle.seq.proofs.Fronts.{any_front}
-use Rattle.seq.proofs.Lists.{or_right, one_le, any_ext, all_elim}
+use Rattle.seq.proofs.Lists.{one_le, any_ext, all_elim}
 use Rattle.seq.proofs.Tab.{up_to_test}
 use Rattle.seq.proofs.Tests.{between}
 use Rattle.filter.specs.Code.Elements.{matched}
@@ -124,10 +121,6 @@ module _ (row : List ℕ) (v : ℕ) {a b c d e : ℕ} (lv : v < 2) (ha : Byte a 
       let s : five a b c d e ≡ from_bytes (tab (λ i. get_or row i 0) 5) = omega arith in
       rw s (and_bytes (λ i. get_or row i 0) v 5 lv row_byte_lem ∙ spread_bits (λ i. bit (get_or row i 0) v) 5)
 
-  -- the product fits its type
-  pub row_fits : bit_and (five a b c d e / 2 ^ v) (each_byte 5) * 270549121 < 18446744073709551616
-  row_fits = rw picked (omega arith)
-
   pub row_bits_lem : (x : ℕ) → x ≡ together (bit_and (five a b c d e / 2 ^ v) (each_byte 5)) → (x ≡ row_bits row v) × (x < 32)
   row_bits_lem x q =
       let s : x ≡ row_bits row v = q ∙ ap together picked ∙ together_bits (row_bits row v) row_lt in
@@ -142,17 +135,6 @@ mask_bits win v {a} {b} {c} {d} {e} ha hb hc hd he n l =
   where
     whole : a + 32 * b + 1024 * c + 32768 * d + 1048576 * e ≡ from_bits (tab (λ n. one (bit (window_at win n) v)) position_count)
     whole = omega arith
-
-pub one_eqb : (b : Bool) → eqb (one b) 1 ≡ b
-one_eqb true = refl
-one_eqb false = refl
-
-module _ (p : ℕ → Bool) (l : List ℕ) (i : ℕ) (h : i < length l) where
-  pub any_found : p (get_or l i 0) ≡ true → 1 ≡ one (any p (take (i + 1) l))
-  any_found e = sym (ap one (any_front p l i 0 h ∙ or_right (any p (take i l)) e))
-
-  pub any_passed : p (get_or l i 0) ≡ false → {n : ℕ} → n ≡ one (any p (take i l)) → n ≡ one (any p (take (i + 1) l))
-  any_passed e q = q ∙ sym (ap one (any_front p l i 0 h ∙ ap (λ (b : Bool). any p (take i l) || b) e ∙ or-false (any p (take i l))))
 
 pub matched_within : (es : List ℕ) → all valid_mask es ≡ true → (win : List (List ℕ)) (v m : ℕ)
     → ((n : ℕ) → n < position_count → bit m n ≡ bit (window_at win n) v) → any (λ e. eqb (bit_and e m) e) es ≡ matched es win v

@@ -1,6 +1,6 @@
 -- The edge rule from row to row of the opening map.
---     widen_none, widen_more            a walk that widens each row: its start, and one row more
---     rows_none, rows_down, rows_up     a walk that puts a row in place of others: its start, and one row more behind it or before it
+--     widen_more            a walk that widens each row: one row more
+--     rows_none     a walk that puts a row in place of others: its start
 --     site_row_lem                          the map's row that stands for a row has the image's row that the edge rule gives
 --     mapped                            all rows widened and those outside the image replaced: every window reads its sites
 -- Assumes nothing.
@@ -21,9 +21,6 @@ use Rattle.filter.specs.Code.Extend.{RowOf, Widened, Widening, Widenings, RowsBy
 use Rattle.filter.specs.Code.Opening.{MapRows, Mapped, shift}
 use Rattle.filter.specs.Code.Plane.{band, halo, step, rim, within}
 use Rattle.filter.proofs.ExtendRow.{within_true}
-
-pub widen_none : (w : ℕ) (d : List ℕ) → Widenings w d d 0
-widen_none w d = record { long = refl; widened = λ r P h. absurd (omega arith); after = λ j h. refl }
 
 pub widen_more : {w r : ℕ} {d l m : List ℕ} (at : ℕ) → at ≡ step * r → Widenings w d l r → Widening w l m at → Widenings w d m (r + 1)
 widen_more {w} {r} {d} {l} {m} at e s t =
@@ -64,25 +61,6 @@ rows_more {f} {r} {d} {l} {m} from to g p h t =
     placed : (i k : ℕ) → i < r + 1 → k < step → get_or m (step * i + k) 0 ≡ get_or d (step * f i + k) 0
     placed i k a b =
         ⊎_elim (λ q. rw q (new k b)) (λ q. t.before (step * i + k) (omega arith) ∙ p.placed i k q b) (eq-or-lt_of_le (omega arith))
-
--- the rows behind row e take it
-pub rows_down : {r : ℕ} {d l m : List ℕ} (e to : ℕ) → to ≡ step * r → e < r → RowsBy (λ i. min i e) d l r
-    → Swept (λ j. get_or l (e * step + (j - to)) 0) l m to (to + step) → RowsBy (λ i. min i e) d m (r + 1)
-rows_down {r} {d} {l} e to g h p t = rows_more (e * step) to g p source t
-  where
-    source : (k : ℕ) → k < step → get_or l (e * step + k) 0 ≡ get_or d (step * min r e + k) 0
-    source k a =
-        let i : e * step + k ≡ step * e + k = omega arith in
-        let j : min e e ≡ min r e = omega arith in
-        rw (i, ← j) (p.placed e k h a)
-
--- the rows before row e take it
-pub rows_up : {r : ℕ} {d l m : List ℕ} (e to : ℕ) → to ≡ step * r → r ≤ e → RowsBy (λ i. e) d l r
-    → Swept (λ j. get_or l (e * step + (j - to)) 0) l m to (to + step) → RowsBy (λ i. e) d m (r + 1)
-rows_up {r} {d} {l} e to g h p t = rows_more (e * step) to g p source t
-  where
-    source : (k : ℕ) → k < step → get_or l (e * step + k) 0 ≡ get_or d (step * e + k) 0
-    source k a = p.after (e * step + k) (omega arith) ∙ ap (λ (x : ℕ). get_or d x 0) (omega arith)
 
 -- the map's row that stands for row R, of those that stand for the image's first and last
 abbrev stands_for : ℕ → ℕ → ℕ → ℕ

@@ -2,9 +2,9 @@
 --     seen_rows                         a window by its rows
 --     held_matched, held_at             the element test on a window
 --     Judging J turned left kept        where the loop over a word's candidates stands: left are still to be judged
---     judging_none, judging_yes, judging_no, judging_all    its start, a candidate that changes, one that does not, its end
+--     judging_yes, judging_no, judging_all    a candidate that changes, one that does not, its end
 --     judging_place                     what the loop takes away from what is kept
---     confirmed_none, confirmed_join    no byte is confirmed yet; bytes, and the next
+--     confirmed_join    bytes that are confirmed, and the next
 --     confirmed_zero, confirmed_word    a word with no candidates, and one that is judged and put back
 -- Assumes nothing.
 use mathlib.Core.Bool.{Bool, true, false, ◌&&◌, ◌||◌}
@@ -73,13 +73,6 @@ pub record Judging (J : ℕ → Bool) (turned left kept : ℕ) : Type 0 where
   pub of : (s : ℕ) → s < 64 → bit left s ≡ true → bit turned s ≡ true
   pub rest : (s : ℕ) → s < 64 → bit kept s ≡ (bit turned s && (bit left s || J s))
 
-pub judging_none : (J : ℕ → Bool) (t : ℕ) → t < word_end → Judging J t t t
-judging_none J t f = record { fits = f; of = λ s l e. e; rest = λ s l. self (bit t s) (J s) }
-  where
-    self : (b j : Bool) → b ≡ (b && (b || j))
-    self true j = refl
-    self false j = refl
-
 pub judging_all : {J : ℕ → Bool} {t l k : ℕ} → Judging J t l k → l ≡ 0 → (s : ℕ) → s < 64 → bit k s ≡ (bit t s && J s)
 judging_all {J} {t} w z s h = w.rest s h ∙ ap (λ (b : Bool). bit t s && (b || J s)) (ap (λ (n : ℕ). bit n s) z ∙ bit_zero s)
 
@@ -120,9 +113,6 @@ module _ {J : ℕ → Bool} {t l k s : ℕ} (w : Judging J t l k) (f : Lowest l 
 -- byte k has the bit s where it had it and some element matches
 abbrev Holds : List ℕ → List ℕ → ℕ → List ℕ → List ℕ → ℕ → ℕ → ℕ → Type 0
 Holds es map from d f at k s = bit (get_or f (at + k) 0) s ≡ (bit (get_or d (at + k) 0) s && held_within es map (from + k) s)
-
-pub confirmed_none : (es map : List ℕ) (from : ℕ) (d : List ℕ) (at : ℕ) → Confirmed es map from d d at 0
-confirmed_none es map from d at = record { long = refl; coded = λ k l v a b c. absurd (omega arith); before = λ j a. refl; after = λ j a. refl }
 
 pub confirmed_join : {es map : List ℕ} {from : ℕ} {d l m : List ℕ} {at n c : ℕ} → Confirmed es map from d l at n → Confirmed es map (from + n) l m (at + n) c
     → Confirmed es map from d m at (n + c)

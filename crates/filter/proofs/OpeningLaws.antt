@@ -1,18 +1,15 @@
 -- What the loops of the module `opening` add to the map.
 --     any_shifts, all_shifts             the tests over a mask's shifts are those over its positions
 --     open_one                           the erosion by a mask's shifts, spread, is what the mask opens
---     open_none, open_more, open_all     the loop over masks: at the start, after one more, at the end
 -- Assumes nothing.
-use mathlib.Core.Bool.{Bool, true, ◌||◌, or-false, or_assoc}
+use mathlib.Core.Bool.{Bool, true, ◌||◌, or-false}
 use mathlib.Core.List.{List, [], ◌∷◌}
-use mathlib.Core.Path.{◌≡◌, refl, sym, ap, ◌∙◌}
+use mathlib.Core.Path.{◌≡◌, sym, ap, ◌∙◌}
 use Prim.Native.Nat.{ℕ, ◌+◌, ◌-◌, ◌*◌, ◌≤◌, ◌<◌}
 use native.Mathlib.Omega.{arith}
-use lib.ListN.{length, get_or, take}
-use lib.Seq.{take_all}
+use lib.ListN.{get_or}
 use Rattle.seq.specs.Bits.{bit}
 use Rattle.seq.specs.Lists.{any, all}
-use Rattle.seq.proofs.Fronts.{any_front}
 use Rattle.seq.proofs.Lists.{bool_ext, any_intro, any_elim, any_ext, all_intro, all_elim, all_ext}
 use Rattle.table.specs.Mask.{position_count, positions}
 use Rattle.filter.specs.Code.Opening.{shift, opens, OpenedBy, Shifts}
@@ -68,23 +65,3 @@ module _ (l : List ℕ) (top rows : ℕ) where
           (any_shifts K s (λ a. bit (get_or e (j + 320 - a) 0) t)
           ∙ any_ext _ _ (positions K) (λ b m. solid j t b p q u (position_below K m))
           ∙ sym (or-false _))
-
-  pub open_none : (d : List ℕ) → OpenedBy [] l top rows d d
-  open_none d = record { long = refl; coded = λ j s p q u. sym (or-false (bit (get_or d j 0) s)) }
-
-  pub open_more : (Ks : List ℕ) (i : ℕ) {d e f : List ℕ} → i < length Ks → OpenedBy (take i Ks) l top rows d e
-      → OpenedBy (get_or Ks i 0 ∷ []) l top rows e f → OpenedBy (take (i + 1) Ks) l top rows d f
-  open_more Ks i {d} {e} {f} h a b = record { long = b.long ∙ a.long; coded = coded }
-    where
-      opened : ℕ → ℕ → ℕ → Bool
-      opened j s K = opens (positions K) l (step * top + 320 + j) s
-
-      coded : (j s : ℕ) → 4 ≤ j → j < step * (rows + 4) - 4 → s < 8
-          → bit (get_or f j 0) s ≡ (bit (get_or d j 0) s || any (opened j s) (take (i + 1) Ks))
-      coded j s p q u =
-          b.coded j s p q u
-          ∙ rw (a.coded j s p q u, or-false (opened j s (get_or Ks i 0)), any_front (opened j s) Ks i 0 h)
-          (or_assoc (bit (get_or d j 0) s) (any (opened j s) (take i Ks)) (opened j s (get_or Ks i 0)))
-
-  pub open_all : (Ks : List ℕ) (i : ℕ) {d f : List ℕ} → length Ks ≤ i → OpenedBy (take i Ks) l top rows d f → OpenedBy Ks l top rows d f
-  open_all Ks i h o = rw (take_all i Ks h) at o

@@ -2,10 +2,9 @@
 --     Agrees w px from src i     the pixels of src from i on are the row's that begins at from, and white behind it
 --     row_packed                 the bands of such a row are folded and the bytes beside them made anew: the row is packed
 --     full_row, line_row         a row of full width agrees with itself, and so does a line that it was copied to
---     line_binary, line_white    the line has pixels only, and stays white behind the row
---     inside_small               the bytes that say what lies inside have no bit of value 1
+--     line_white    the line stays white behind the row
 --     zero_line                  a line of zeros is white
---     image_binary, row_room     the pixels of an image are 0 or 1, and a row of it ends within it
+--     image_binary     the pixels of an image are 0 or 1
 --     rows_none, rows_more       the loop over the rows: at the start, after one more
 --     packed_all                 zeros above, the rows, zeros below
 -- Assumes nothing.
@@ -25,7 +24,6 @@ use Rattle.seq.specs.Bits.{bit}
 use Rattle.seq.specs.Lists.{one}
 use Rattle.seq.specs.Loops.{Swept}
 use Rattle.seq.proofs.Bits.{bit_zero}
-use Rattle.seq.proofs.Grid.{next_row, row_below}
 use Rattle.seq.proofs.Lists.{one_le}
 use Rattle.seq.proofs.Tests.{lt_or_le}
 use Rattle.filter.specs.Code.Plane.{band, halo, step, rim, within, framed_is, quad, folded, inside_at, Inside, White, row_is, Refreshed, RowPacked, RowsPacked, Packed}
@@ -133,25 +131,14 @@ module _ {w : ℕ} {px : List ℕ} {from : ℕ} where
         outer : (c : ℕ) → w ≤ c → get_or l (0 + c) 0 ≤ one (ltb c w)
         outer c a = omega (arith, s.after (0 + c) (omega arith), t.behind (0 + c) (omega arith))
 
-pub line_binary : {f : ℕ → ℕ} {w : ℕ} {b l : List ℕ} → Swept f b l 0 (0 + w) → White w b → ((j : ℕ) → f j ≤ 1) → (j : ℕ) → get_or l j 0 ≤ 1
-line_binary {w = w} s t low j =
-    ⊎_elim (λ q. rw (s.inner j (omega arith) (omega arith)) (low j)) (λ q. omega (arith, s.after j (omega arith), t.behind j q)) (lt_or_le j w)
-
 pub line_white : {f : ℕ → ℕ} {w : ℕ} {b l : List ℕ} → Swept f b l 0 (0 + w) → White w b → White w l
 line_white s t = record { behind = λ j a. s.after j (omega arith) ∙ t.behind j a }
-
-pub inside_small : {w : ℕ} {a : List ℕ} → Inside w a → (k : ℕ) → k < band → get_or a k 0 ≤ 85
-inside_small {w} t k h =
-    omega (arith, t.column k h, one_le (ltb k w), one_le (ltb (64 + k) w), one_le (ltb (128 + k) w), one_le (ltb (192 + k) w))
 
 pub zero_line : (n w : ℕ) → White w (replicate n 0)
 zero_line n w = record { behind = λ j a. ⊎_elim (λ q. get_or-replicate n j 0 0 q) (λ q. get_or-eq_default (replicate n 0) 0 (rw (length-replicate n) q)) (lt_or_le j n) }
 
 pub image_binary : {w h : ℕ} {img : List ℕ} → IsImage w h img → (j : ℕ) → get_or img j 0 ≤ 1
 image_binary {img = img} m j = rw (binary_value m j) (one_le (black_of img j))
-
-pub row_room : {w h r from : ℕ} {img : List ℕ} → IsImage w h img → r < h → from ≡ r * w → from + w ≤ length img
-row_room {w} {r = r} m a e = omega (arith, m.sized, row_below w a, next_row r w)
 
 pub rows_none : (w : ℕ) (img d : List ℕ) → RowsPacked w img 0 d d
 rows_none w img d = record { long = refl; rows = λ r k i v a. absurd (omega arith); above = λ j a. refl; below = λ j a. refl }

@@ -2,7 +2,6 @@
 --     other_bits         the codes of the other value
 --     moved_up           the bits of a byte whose lanes are moved up by one
 --     quad_bits          the bits of a byte that is put together of four codes
---     refreshed_both     the bytes on both sides of the bands are made anew
 --     refreshed_row      where the bands of a row have the bits of a test, all its bytes have them once they are made anew
 -- Assumes nothing.
 use mathlib.Core.Bool.{Bool, true, false, ◌&&◌}
@@ -18,7 +17,6 @@ use lib.ListN.{get_or}
 use Rattle.image.specs.Size.{max_side}
 use Rattle.seq.specs.Bits.{bit}
 use Rattle.seq.specs.Lists.{all, same}
-use Rattle.seq.specs.Loops.{Swept}
 use Rattle.seq.specs.Tab.{up_to}
 use Rattle.seq.proofs.Bits.{bit_shr, bit_above}
 use Rattle.seq.proofs.Lists.{same_true}
@@ -70,31 +68,6 @@ quad_bits f h i v a b = ap (λ (d : ℕ). eqb d 1) (digit i v a b)
     digit (suc (suc (suc (suc i)))) v p q = absurd (omega arith)
 
 module _ {d l : List ℕ} (at : ℕ) where
-  pub refreshed_both : {m : List ℕ} → Swept (λ j. get_or d (j + band) 0 * 4 % 256) d m at (at + halo)
-      → Swept (λ j. get_or m (j - band) 0 / 4) m l (at + halo + band) (at + step) → Refreshed d l at
-  refreshed_both {m} s t =
-      record {
-        long = t.long ∙ s.long;
-        left = left;
-        right = right;
-        bands = λ k h. kept (at + halo + k) (omega arith) (omega arith);
-        before = λ j h. t.before j (omega arith) ∙ s.before j h;
-        after = λ j h. t.after j h ∙ s.after j (omega arith);
-      }
-    where
-      kept : (j : ℕ) → at + halo ≤ j → j < at + halo + band → get_or l j 0 ≡ get_or d j 0
-      kept j a b = t.before j b ∙ s.after j a
-
-      left : (k : ℕ) → k < halo → get_or l (at + k) 0 ≡ get_or d (at + band + k) 0 * 4 % 256
-      left k h =
-          let e : at + k + band ≡ at + band + k = omega arith in
-          t.before (at + k) (omega arith) ∙ s.inner (at + k) (omega arith) (omega arith) ∙ rw e
-
-      right : (k : ℕ) → k < halo → get_or l (at + halo + band + k) 0 ≡ get_or d (at + halo + k) 0 / 4
-      right k h =
-          let e : at + halo + band + k - band ≡ at + halo + k = omega arith in
-          t.inner (at + halo + band + k) (omega arith) (omega arith) ∙ rw (e, s.after (at + halo + k) (omega arith))
-
   -- no column stands before the first band's or behind the last band's
   pub refreshed_row : (p : ℕ → ℕ → Bool) → Refreshed d l at → ((v C : ℕ) → C < halo → p v C ≡ false) → ((v C : ℕ) → max_side + halo ≤ C → p v C ≡ false)
       → ((k : ℕ) → k < band → get_or d (at + halo + k) 0 < 256)

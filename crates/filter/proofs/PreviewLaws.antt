@@ -4,6 +4,7 @@
 --     checked_image, checked_area     pixels that the image writer accepts
 --     preview_refused, preview_short, preview_filled     the preview's answer and area
 -- Assumes nothing.
+use Rattle.std.specs.Prelude.{Ok, Err}
 use mathlib.Core.Bool.{true}
 use mathlib.Core.List.{List, [], ◌∷◌}
 use mathlib.Core.Path.{◌≡◌, refl, subst}
@@ -13,6 +14,7 @@ use borrow.Author.Tests.{le-leb, le-ltb, lt-ltb}
 use lib.Dec.{leb}
 use lib.ListN.{length, get_or}
 use Rattle.seq.specs.Lists.{all}
+use Rattle.verdict.specs.declared.Rule.TheVariants as why
 use Rattle.seq.proofs.Members.{all_tab}
 use Rattle.seq.proofs.Tab.{tab_get_d}
 use Rattle.image.specs.File.{pixel_verdict}
@@ -20,9 +22,7 @@ use Rattle.image.specs.Size.{max_pixels}
 use Rattle.image.proofs.PixelsOf.{PixelsGood, pixels_good}
 use Rattle.image.proofs.RowBytes.{pixels_few, sides}
 use Rattle.verdict.specs.declared.Refusal.{Refusal}
-use Rattle.verdict.specs.declared.Verdict.{Verdict}
-use Rattle.verdict.specs.declared.Verdict.TheVariants.{Accepted, Refused}
-use Rattle.verdict.specs.Rules.{refusal}
+use Rattle.verdict.specs.Rules.{refusal, Verdict}
 use Rattle.verdict.specs.Writer.{over}
 use Rattle.operator.specs.Image.{IsImage}
 use Rattle.operator.specs.Preview.{from_bits, pattern, five_or_more, preview}
@@ -43,7 +43,7 @@ unfolding pattern
 nine_pattern win ha hb hc = omega arith
 
 -- pixels that the image writer accepts are an image
-pub checked_image : (w h : ℕ) (px : List ℕ) → pixel_verdict w h px ≡ Accepted → IsImage w h px
+pub checked_image : (w h : ℕ) (px : List ℕ) → pixel_verdict w h px ≡ Ok tt → IsImage w h px
 checked_image w h px e = let s = sides w h g.size in record { wide = s.wide; high = s.tall; sized = g.count; binary = binary }
   where
     g : PixelsGood w h px
@@ -55,22 +55,22 @@ checked_image w h px e = let s = sides w h g.size in record { wide = s.wide; hig
         (all_tab (λ v. leb v 1) (λ k. get_or px k 0) (length px) (λ k l. le-leb (get_or px k 0) 1 (g.small k (rw g.count at l))))
 
 -- and small
-pub checked_area : (w h : ℕ) (px : List ℕ) → pixel_verdict w h px ≡ Accepted → w * h ≤ max_pixels
+pub checked_area : (w h : ℕ) (px : List ℕ) → pixel_verdict w h px ≡ Ok tt → w * h ≤ max_pixels
 checked_area w h px e = pixels_few (sides w h (pixels_good w h px e).size)
 
 module _ (w h : ℕ) (px d : List ℕ) where
   abbrev Previewed : Verdict → List ℕ → Type 0
   Previewed r after = (r ≡ preview_verdict w h px (length d)) × (after ≡ preview_area w h px d)
 
-  pub preview_refused : {x : Refusal} → pixel_verdict w h px ≡ Refused x → Previewed (Refused x) d
+  pub preview_refused : {x : Refusal} → pixel_verdict w h px ≡ Err x → Previewed (Err x) d
   unfolding preview_verdict preview_area
   preview_refused e = simp e (refl, refl)
 
-  module _ (ok : pixel_verdict w h px ≡ Accepted) where
-    pub preview_short : length d < w * h → Previewed (Refused (refusal 13 0)) d
+  module _ (ok : pixel_verdict w h px ≡ Ok tt) where
+    pub preview_short : length d < w * h → Previewed (Err (refusal why.AreaShort 0)) d
     unfolding preview_verdict preview_area
     preview_short l = simp (ok, lt-ltb _ _ l) (refl, refl)
 
-    pub preview_filled : {after : List ℕ} → w * h ≤ length d → after ≡ over (preview w h px) d → Previewed Accepted after
+    pub preview_filled : {after : List ℕ} → w * h ≤ length d → after ≡ over (preview w h px) d → Previewed (Ok tt) after
     unfolding preview_verdict preview_area
     preview_filled l e = simp (ok, le-ltb _ _ l) (refl, e)

@@ -1,7 +1,6 @@
 -- Marks of rows, and what they say of a next pass.
---     range_none, range_more        a search along rows: what holds of each row passed, at its start and one row further
---     or_none, none_or              a join is 0 exactly where both sides are
---     spread_none, spread_more      marks that are spread: none, and one join more; spread_after: over rows that were stored before
+--     or_none              a join of no marks has none
+--     spread_more      marks that are spread: one join more
 --     quiet_next                    where no row within reach changed in a pass, the next pass changes nothing
 --     turned_kept, kept_turned      a pixel of the image after the changes S stays exactly where S does not hold
 --     still_next                    the marks of a pass, spread, are marks for the next pass
@@ -9,7 +8,7 @@
 use mathlib.Core.Bool.{Bool, true, false}
 use mathlib.Core.List.{List}
 use mathlib.Core.Logic.{⊎_elim}
-use mathlib.Core.Path.{◌≡◌, refl, sym, ◌∙◌, subst}
+use mathlib.Core.Path.{◌≡◌, refl, sym, ◌∙◌}
 use Prim.Native.Nat.{ℕ, ◌+◌, ◌-◌, ◌≤◌, ◌<◌}
 use native.Mathlib.Nat.{eq-or-lt_of_le}
 use native.Mathlib.Omega.{arith}
@@ -26,24 +25,12 @@ use Rattle.operator.specs.Pass.{pass}
 use Rattle.seq.specs.Loops.{Swept}
 use Rattle.table.specs.declared.Table.{Table}
 
-pub range_none : (P : ℕ → Type 0) (lo : ℕ) → (i : ℕ) → lo ≤ i → i < lo → P i
-range_none P lo i a b = absurd (omega arith)
-
-pub range_more : (P : ℕ → Type 0) (lo hi : ℕ) → ((i : ℕ) → lo ≤ i → i < hi → P i) → P hi → (i : ℕ) → lo ≤ i → i < hi + 1 → P i
-range_more P lo hi f p i a b = ⊎_elim (λ e. subst P (sym e) p) (f i a) (eq-or-lt_of_le (omega arith))
-
 pub or_none : (a b : ℕ) → bit_or a b ≡ 0 → (a ≡ 0) × (b ≡ 0)
 or_none a b e =
     let s : bit_or a b + bit_and a b ≡ a + b = or_add_and a b in
     let l : bit_and a b ≤ a = and_le_l a b in
     let r : bit_and b a ≤ b = and_le_l b a in
     (omega (arith, and_comm a b), omega (arith, and_comm a b))
-
-pub none_or : {a b : ℕ} → a ≡ 0 → b ≡ 0 → bit_or a b ≡ 0
-none_or p q = rw (p, q) refl
-
-pub spread_none : (c : List ℕ) (h : ℕ) (l : List ℕ) → Spread 0 c h l l
-spread_none c h l = record { long = refl; clear = λ i a z e b. absurd (omega arith); behind = λ j a. refl }
 
 module _ {c d l m : List ℕ} {h n : ℕ} where
   pub spread_more : Spread n c h d l → Swept (λ j. bit_or (get_or l j 0) (get_or c (n + j) 0)) l m 0 h → Spread (n + 1) c h d m
@@ -53,10 +40,6 @@ module _ {c d l m : List ℕ} {h n : ℕ} where
       clear i a z e b =
           let both = or_none (get_or l i 0) (get_or c (n + i) 0) (sym (t.inner i (omega arith) a) ∙ z) in
           ⊎_elim (λ q. let g : i + e ≡ n + i = omega arith in rw g both.1) (s.clear i a both.0 e) (eq-or-lt_of_le (omega arith))
-
-  -- what stood in the rows before the first join does not matter
-  pub spread_after : (f : ℕ → ℕ) → Swept f d l 0 h → Spread n c h l m → Spread n c h d m
-  spread_after f t s = record { long = s.long ∙ t.long; clear = s.clear; behind = λ j a. s.behind j a ∙ t.after j a }
 
 -- a row with no mark kept its pixels; the mark of row r stands at reach + r
 pub quiet_next : (t : Table) (w h : ℕ) (img c : List ℕ)

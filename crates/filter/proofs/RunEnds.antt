@@ -1,41 +1,37 @@
 -- The loop over passes: where it stands, one pass more, and its ends.
 --     parity                     one pass more exchanges the areas
---     put_even, put_odd          the area that is written, by the code's test of the parity
---     way_rests, way_most, way_full, way_onward     how passes go on, by the code's tests
---     Goes, goes_by              what the way says of the budget
 --     Looping ..                 where the loop stands after n passes that added x and removed y
 --     running_none               before the first pass
---     onward_within, went     one pass of the loop
 --     ends_stable, ends_full, ends_limit     what it answers and leaves at each of its ends
+--     over_stops, overruns_not   what the code's test of the budget says
+--     runs_on                    one pass more of the loop
 -- Assumes nothing.
-use mathlib.Core.Bool.{Bool, true, false, cond, not, ◌||◌}
+use Rattle.std.specs.Prelude.{Ok}
+use mathlib.Core.Bool.{Bool, true, false, cond, not}
 use mathlib.Core.List.{List}
 use mathlib.Core.Path.{◌≡◌, refl, sym, ap, ap₂, ◌∙◌, subst}
 use Prim.Native.Nat.{ℕ, ◌+◌, ◌-◌, ◌*◌, ◌%◌, ◌≤◌, ◌<◌}
 use native.Mathlib.Omega.{arith}
-use borrow.Author.Tests.{eq-eqb, ne_eqb, eqb-true, eqb-false, lt-ltb, le-ltb, ltb-false}
+use borrow.Author.Tests.{eq-eqb, ne_eqb, eqb-true, eqb-false, ltb-false}
 use lib.Dec.{ltb, eqb}
 use lib.ListN.{length, get_or, take}
 use Rattle.filter.specs.declared.Budget.{Budget}
 use Rattle.filter.specs.declared.End.{End}
 use Rattle.filter.specs.declared.End.TheVariants as ending
-use Rattle.filter.specs.declared.run.Way.{Way}
-use Rattle.filter.specs.declared.run.Way.TheVariants as way
 use Rattle.filter.specs.Applied.{switches}
 use Rattle.filter.specs.Code.Blocks.{Advanced, Fresh}
-use Rattle.filter.specs.Code.Plane.{rim, Packed, Shown}
+use Rattle.filter.specs.Code.Plane.{rim, Packed}
 use Rattle.filter.specs.Code.Rows.{nearby, Spread}
-use Rattle.filter.specs.Code.Run.{holding, trail_of, Running, EndedAs, Put, way_of, Acted, Went, ended}
+use Rattle.filter.specs.Code.Run.{holding, trail_of, Running, EndedAs, Put, overruns, ended}
 use Rattle.filter.specs.Repeated.{Trail, begin, shown, next, onward, stops, rested, follow, first_area, second_area}
 use Rattle.filter.proofs.FilteredLaws.{shown_over, all_fresh, still_all}
-use Rattle.filter.proofs.RunLaws.{next_image_lem, next_packed, next_counts, fresh_same, fresh_joined, stops_test, rests, overflows, onward_running, limited}
+use Rattle.filter.proofs.RunLaws.{next_image_lem, next_packed, next_counts, stops_test, rests, overflows, onward_running, limited}
 use Rattle.image.specs.Size.{max_side}
 use Rattle.operator.specs.Image.{IsImage}
 use Rattle.seq.specs.Loops.{Swept}
 use Rattle.seq.proofs.Tests.{or_none_right}
 use Rattle.table.specs.declared.Table.{Table}
 use Rattle.table.specs.Record.{masks, persistents, record_verdict}
-use Rattle.verdict.specs.declared.Verdict.TheVariants.{Accepted}
 use Rattle.verdict.specs.Writer.{over}
 
 pub parity : (n : ℕ) → eqb ((n + 1) % 2) 0 ≡ not (eqb (n % 2) 0)
@@ -44,52 +40,6 @@ parity n = by (eqb (n % 2) 0) refl
     by : (b : Bool) → eqb (n % 2) 0 ≡ b → eqb ((n + 1) % 2) 0 ≡ not b
     by true e = ne_eqb ((n + 1) % 2) 0 (λ z. omega (arith, eqb-true (n % 2) 0 e))
     by false e = let odd : n % 2 ≡ 0 → ⊥ = eqb-false (n % 2) 0 e in eq-eqb ((n + 1) % 2) 0 (omega arith)
-
--- the code's test of the parity
-module _ {n w h : ℕ} {marks plane : List ℕ} (a b : List ℕ) where
-  pub put_even : n % 2 ≡ 0 → {s : List ℕ} → ((img : List ℕ) → IsImage w h img → Packed w h img plane → Shown w h img marks b s) → Put n w h marks plane a b a s
-  put_even e f = let d = eq-eqb (n % 2) 0 e in record { kept = rw d refl; put = rw d f }
-
-  pub put_odd : (n % 2 ≡ 0 → ⊥) → {f : List ℕ} → ((img : List ℕ) → IsImage w h img → Packed w h img plane → Shown w h img marks a f) → Put n w h marks plane a b f b
-  put_odd e f = let d = ne_eqb (n % 2) 0 e in record { kept = rw d refl; put = rw d f }
-
--- the code's tests of the budget, which do not wrap
-module _ (b : Budget) (n u k : ℕ) where
-  pub way_rests : k ≡ 0 → way.Rests ≡ way_of b n u k
-  unfolding way_of
-  way_rests z = sym (rw (eq-eqb k 0 z) refl)
-
-  module _ (some : k ≡ 0 → ⊥) where
-    pub way_most : b.most ≤ n → way.Full ≡ way_of b n u k
-    unfolding way_of
-    way_most l = sym (rw (ne_eqb k 0 some, lt-ltb b.most (n + 1) (omega arith)) refl)
-
-    module _ (few : u ≤ b.room) (more : n < b.most) where
-      pub way_full : b.room - u < k → way.Full ≡ way_of b n u k
-      unfolding way_of
-      way_full l = sym (rw (ne_eqb k 0 some, le-ltb b.most (n + 1) (omega arith), lt-ltb b.room (u + k) (omega arith)) refl)
-
-      pub way_onward : k ≤ b.room - u → way.Onward ≡ way_of b n u k
-      unfolding way_of
-      way_onward l = sym (rw (ne_eqb k 0 some, le-ltb b.most (n + 1) (omega arith), le-ltb b.room (u + k) (omega arith)) refl)
-
--- and what each answer says
-data Goes (b : Budget) (n u k : ℕ) : Way → Type 0 where
-  rest : k ≡ 0 → Goes b n u k way.Rests
-  full : (k ≡ 0 → ⊥) → (ltb b.most (n + 1) || ltb b.room (u + k)) ≡ true → Goes b n u k way.Full
-  more : (k ≡ 0 → ⊥) → (ltb b.most (n + 1) || ltb b.room (u + k)) ≡ false → Goes b n u k way.Onward
-
-goes_by : (b : Budget) (n u k : ℕ) → Goes b n u k (way_of b n u k)
-unfolding way_of
-goes_by b n u k = zero_or (eqb k 0) refl
-  where
-    above : (k ≡ 0 → ⊥) → (d : Bool) → (ltb b.most (n + 1) || ltb b.room (u + k)) ≡ d → Goes b n u k (cond d way.Full way.Onward)
-    above some true e = full some e
-    above some false e = more some e
-
-    zero_or : (d : Bool) → eqb k 0 ≡ d → Goes b n u k (cond d way.Rests (cond (ltb b.most (n + 1) || ltb b.room (u + k)) way.Full way.Onward))
-    zero_or true e = rest (eqb-true k 0 e)
-    zero_or false e = above (eqb-false k 0 e) (ltb b.most (n + 1) || ltb b.room (u + k)) refl
 
 -- the two areas, taken by a truth value and put back
 pick_first : (d : Bool) (f s : List ℕ) → f ≡ cond d (cond d f s) (cond d s f)
@@ -114,17 +64,20 @@ areas : {n : ℕ} {x y : ℕ} {f s here there : List ℕ} (end : End) → holdin
 unfolding first_area second_area
 areas {n} {f = f} {s} end p q = (refl, pick_first (eqb (n % 2) 0) f s ∙ ap₂ (cond (eqb (n % 2) 0)) p q, pick_second (eqb (n % 2) 0) f s ∙ ap₂ (cond (eqb (n % 2) 0)) q p)
 
-module _ {t : Table} {w h : ℕ} {b : Budget} {c₀ : Trail} {es ms plane dirty stale : List ℕ} (first second : List ℕ) {n x y : ℕ} (ok : record_verdict t ≡ Accepted)
+module _ {t : Table} {w h : ℕ} {b : Budget} {c₀ : Trail} {es ms plane dirty stale : List ℕ} (first second : List ℕ) {n x y : ℕ} (ok : record_verdict t ≡ Ok tt)
     (run : Running t w h b c₀ es ms plane dirty stale (trail_of first second n x y)) where
   abbrev c : Trail
   c = trail_of first second n x y
 
-  pub ends_limit : b.limit ≤ n → EndedAs (follow t w h b b.limit c₀) (ended n x y way.Onward) first second
+  pub ends_limit : b.limit ≤ n → EndedAs (follow t w h b b.limit c₀) (ended n x y ending.Limit) first second
   ends_limit l = rw (limited t w h b c₀ ok run l) (areas ending.Limit refl refl)
 
   module _ {plane' e : List ℕ} {p q : ℕ} (made : Advanced t w h (shown w h c) plane' e p q) (go : n < b.limit) where
+    pub over_stops : {u : ℕ} {d : Bool} → u ≡ x + y → d ≡ overruns b n u (p + q) → stops t w h b c ≡ d
+    over_stops k e = sym (stops_test t w h b c₀ ok run made (e ∙ ap (λ (u : ℕ). overruns b n u (p + q)) k))
+
     pub ends_full : (p + q ≡ 0 → ⊥) → stops t w h b c ≡ true
-        → EndedAs (follow t w h b b.limit c₀) (ended n x y way.Full) first second
+        → EndedAs (follow t w h b b.limit c₀) (ended n x y ending.Full) first second
     ends_full some f = rw (overflows t w h b c₀ ok run made go some f) (areas ending.Full refl refl)
 
     module _ (first_long : w * h ≤ length first) (second_long : w * h ≤ length second) {marks f s : List ℕ} (put : Put n w h marks plane' first second f s)
@@ -134,7 +87,7 @@ module _ {t : Table} {w h : ℕ} {b : Budget} {c₀ : Trail} {es ms plane dirty 
           shown_over (next_image_lem t w h b c₀ ok run) (holding_long (eqb (n % 2) 0) second first second_long first_long) fresh
           (put.put (next t w h c) (next_image_lem t w h b c₀ ok run) (next_packed t w h b c₀ ok run made))
 
-      pub ends_stable : p + q ≡ 0 → EndedAs (follow t w h b b.limit c₀) (ended n x y way.Rests) f s
+      pub ends_stable : p + q ≡ 0 → EndedAs (follow t w h b b.limit c₀) (ended n x y ending.Stable) f s
       unfolding rested
       ends_stable z = rw (rests t w h b c₀ ok run made go z) (areas ending.Stable put.kept put_next)
 
@@ -154,36 +107,9 @@ module _ {t : Table} {w h : ℕ} {b : Budget} {c₀ : Trail} {es ms plane dirty 
           → Spread nearby e h dirty dirty' → Running t w h b c₀ es ms plane' dirty' stale' (trail_of f s (n + 1) (x + p) (y + q))
       runs_on some st {stale'} {dirty'} sw sp = subst (λ (k : Trail). Running t w h b c₀ es ms plane' dirty' stale' k) onward_trail (onward_running t w h b c₀ ok run made go some st sw sp)
 
--- what is onward is within the budget
-pub onward_within : (b : Budget) (n u k : ℕ) {v : Way} → v ≡ way_of b n u k → v ≡ way.Onward → u + k ≤ b.room
-onward_within b n u k g o = by (way_of b n u k) (goes_by b n u k) (sym g ∙ o)
-  where
-    by : (v : Way) → Goes b n u k v → v ≡ way.Onward → u + k ≤ b.room
-    by v (rest z) i = let x : ◌≡◌ {A = ℕ} 0 1 = cc in absurd (omega arith)
-    by v (full a d) i = let x : ◌≡◌ {A = ℕ} 0 1 = cc in absurd (omega arith)
-    by v (more a d) i = ltb-false b.room (u + k) (or_none_right (ltb b.most (n + 1)) (ltb b.room (u + k)) d)
-
--- one pass of the loop: what was written is what the way asks for
-module _ {t : Table} {w h : ℕ} {b : Budget} {c₀ : Trail} {es ms plane dirty stale plane' dirty' stale' e : List ℕ} (first second : List ℕ) {f s : List ℕ} {n x y p q : ℕ}
-    (ok : record_verdict t ≡ Accepted) (run : Running t w h b c₀ es ms plane dirty stale (trail_of first second n x y))
-    (made : Advanced t w h (shown w h (trail_of first second n x y)) plane' e p q) (go : n < b.limit) (first_long : w * h ≤ length first) (second_long : w * h ≤ length second) where
-  pub went : {u : ℕ} {v : Way} → u ≡ x + y → v ≡ way_of b n u (p + q) → Acted v n w h plane' e dirty dirty' stale stale' first second f s
-      → Went t w h b c₀ es ms n x y (record { way = v; added = p; removed = q }) plane' dirty' stale' f s
-  went {u} {v} k g a =
-      subst (λ (i : Way). Acted i n w h plane' e dirty dirty' stale stale' first second f s → Went t w h b c₀ es ms n x y (record { way = i; added = p; removed = q }) plane' dirty' stale' f s)
-      (sym (g ∙ ap (λ (i : ℕ). way_of b n i (p + q)) k)) (by (way_of b n (x + y) (p + q)) (goes_by b n (x + y) (p + q))) a
-    where
-      by : (i : Way) → Goes b n (x + y) (p + q) i → Acted i n w h plane' e dirty dirty' stale stale' first second f s
-          → Went t w h b c₀ es ms n x y (record { way = i; added = p; removed = q }) plane' dirty' stale' f s
-      by i (rest z) put =
-          (λ o. let x : ◌≡◌ {A = ℕ} 0 1 = cc in absurd (omega arith), λ o. ends_stable first second ok run made go first_long second_long put (fresh_same t w h b c₀ ok run made z) z)
-      by i (full some d) kept =
-          (λ o. let x : ◌≡◌ {A = ℕ} 0 1 = cc in absurd (omega arith), λ o. rw (kept.0, kept.1) (ends_full first second ok run made go some (sym (stops_test t w h b c₀ ok run made (sym d)))))
-      by i (more some d) settled = (
-        λ o. runs_on first second ok run made go first_long second_long settled.putting (fresh_joined t w h b c₀ ok run made settled.joined) some
-            (sym (stops_test t w h b c₀ ok run made (sym d))) settled.stale settled.dirty,
-        λ o. absurd (o refl),
-      )
+-- a pass that the budget allows keeps within it
+pub overruns_not : (b : Budget) (n u k : ℕ) → false ≡ overruns b n u k → u + k ≤ b.room
+overruns_not b n u k e = ltb-false b.room (u + k) (or_none_right (ltb b.most (n + 1)) (ltb b.room (u + k)) (sym e))
 
 -- before the first pass every row is dirty and every row is stale
 pub running_none : {t : Table} {w h : ℕ} {b : Budget} (first second : List ℕ) {es ms plane dirty stale : List ℕ} → masks t ≡ es → persistents t ≡ ms
@@ -200,14 +126,11 @@ running_none {t} {w} {h} {b} first second e k m p low d s =
     }
 
 -- the loop's state: every memory has its length, the changes are within the budget, and the passes stand where the areas say
-pub record Looping (es ms : List ℕ) (w h : ℕ) (b : Budget) (plane₀ flips₀ changed₀ dirty₀ stale₀ first₀ second₀ plane flips changed dirty stale first second : List ℕ) (n x y : ℕ) : Type 0 where
+pub record Looping (es ms : List ℕ) (w h : ℕ) (b : Budget) (plane₀ flips₀ first₀ second₀ plane flips dirty stale first second : List ℕ) (n x y : ℕ) : Type 0 where
   pub plane_same : length plane ≡ length plane₀
   pub flips_same : length flips ≡ length flips₀
-  pub changed_same : length changed ≡ length changed₀
-  pub dirty_same : length dirty ≡ length dirty₀
-  pub stale_same : length stale ≡ length stale₀
   pub first_same : length first ≡ length first₀
   pub second_same : length second ≡ length second₀
   pub few : x + y ≤ b.room
-  pub running : (t : Table) → masks t ≡ es → persistents t ≡ ms → record_verdict t ≡ Accepted
+  pub running : (t : Table) → masks t ≡ es → persistents t ≡ ms → record_verdict t ≡ Ok tt
       → Running t w h b (begin first₀ second₀) es ms plane dirty stale (trail_of first second n x y)

@@ -3,6 +3,7 @@
 --     rests, overflows, goes, limited     the four ways that the passes go on: at rest, too far, one more, and the limit
 --     onward_running         after one pass more
 -- Assumes nothing.
+use Rattle.std.specs.Prelude.{Ok}
 use mathlib.Core.Bool.{Bool, true, false, ◌||◌}
 use mathlib.Core.List.{List}
 use mathlib.Core.Path.{◌≡◌, refl, sym, ap, ap₂, ◌∙◌, subst}
@@ -30,10 +31,9 @@ use Rattle.seq.specs.Loops.{Swept}
 use Rattle.seq.proofs.Grid.{cell_below}
 use Rattle.table.specs.declared.Table.{Table}
 use Rattle.table.specs.Record.{record_verdict}
-use Rattle.verdict.specs.declared.Verdict.TheVariants.{Accepted}
 use Rattle.verdict.proofs.Writer.{take_over}
 
-module _ (t : Table) (w h : ℕ) (b : Budget) (c₀ : Trail) {es ms plane dirty stale : List ℕ} {c : Trail} (ok : record_verdict t ≡ Accepted)
+module _ (t : Table) (w h : ℕ) (b : Budget) (c₀ : Trail) {es ms plane dirty stale : List ℕ} {c : Trail} (ok : record_verdict t ≡ Ok tt)
     (run : Running t w h b c₀ es ms plane dirty stale c) where
   abbrev img : List ℕ
   img = shown w h c

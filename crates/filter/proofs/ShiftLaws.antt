@@ -3,7 +3,6 @@
 --     position_below                            a position is below their number
 --     Gathered mask at n b                      the n shifts of the positions below b stand at the front of at
 --     gather_none, gather_set, gather_clear     the loop over positions: at the start, after a position of the mask, after another one
---     pad_more                                  the last shift is written once more
 --     gather_pad                                after both loops they are the mask's shifts
 --     shifts_fours                              which come in fours, none above the farthest
 -- Assumes nothing.
@@ -12,17 +11,16 @@ use mathlib.Core.List.{List, [], ◌∷◌, map, map-append, Memᴰ}
 use mathlib.Core.Logic.{⊎_elim}
 use mathlib.Core.Path.{◌≡◌, refl, sym, ap, ◌∙◌}
 use Prim.Native.Nat.{ℕ, zero, suc, ◌+◌, ◌-◌, ◌≤◌, ◌<◌}
-use native.Mathlib.Nat.{eq-or-lt_of_le, not-suc-le-zero, le_of_suc-le-suc}
+use native.Mathlib.Nat.{not-suc-le-zero, le_of_suc-le-suc}
 use native.Mathlib.Numerals.{add-one}
 use native.Mathlib.Omega.{arith}
 use lib.ListN.{length, get_or, set, take, length-set}
 use lib.Seq.{get_or-take, length-take-le, take-suc-set}
 use Rattle.seq.specs.Bits.{bit, bits_of}
-use Rattle.seq.specs.Loops.{Swept}
 use Rattle.seq.specs.Tab.{up_to}
 use Rattle.seq.proofs.Bits.{bits_of_elim}
 use Rattle.seq.proofs.Lists.{map_intro, map_elim}
-use Rattle.seq.proofs.Loops.{sweep_more, bits_set, bits_clear}
+use Rattle.seq.proofs.Loops.{bits_set, bits_clear}
 use Rattle.seq.proofs.Members.{take_place}
 use Rattle.seq.proofs.Tests.{lt_or_le}
 use Rattle.table.specs.Mask.{position_count, positions}
@@ -65,16 +63,6 @@ module _ (mask : ℕ) {at : List ℕ} where
   pub gather_clear : {n : ℕ} (b : ℕ) → Gathered mask at n b → b < position_count → bit mask b ≡ false → Gathered mask at n (b + 1)
   gather_clear b g h t =
       record { long = g.long; fits = omega arith; below = omega arith; front = g.front ∙ ap (map shift) (sym (bits_clear mask b t)) }
-
-pub pad_more : {d l : List ℕ} (n m : ℕ) → Swept (λ j. get_or d (n - 1) 0) d l n m → 1 ≤ n → n ≤ m → m < length d
-    → Swept (λ j. get_or d (n - 1) 0) d (set l m (get_or l (m - 1) 0)) n (m + 1)
-pad_more {d} {l} n m s p q b = sweep_more _ s q b (⊎_elim first later (eq-or-lt_of_le q)) refl
-  where
-    first : n ≡ m → get_or l (m - 1) 0 ≡ get_or d (n - 1) 0
-    first e = s.before (m - 1) (omega arith) ∙ ap (λ (k : ℕ). get_or d (k - 1) 0) (omega arith)
-
-    later : n < m → get_or l (m - 1) 0 ≡ get_or d (n - 1) 0
-    later h = s.inner (m - 1) (omega arith) (omega arith)
 
 pub gather_pad : (mask : ℕ) {d l : List ℕ} {n m b : ℕ} → Gathered mask d n b → position_count ≤ b → Padded d l n m → Shifts mask (take m l)
 unfolding positions

@@ -1,17 +1,16 @@
 -- The plane's rows as pixels again.
 --     Unfolding plane d l from to s     where the loop that unfolds a row stands after s stores: store 4 k + n is the pixel of lane n of byte k
---     unfold_none, unfold_more, unfold_turn, unfold_all     its start, one store, a turn of four stores, its end
---     unfold_copied                     a row that is unfolded by a line
+--     unfold_more, unfold_all     one store, its end
 --     coded_pixel                       the code's bit for the value 1 is the pixel
---     shown_none, shown_more, shown_row, shown_skip     no row is shown yet; one row more: any, one with a mark, one with none
---     Showing w h marks plane d l r from to     where the walk along the rows stands at row r
---     showing_none, showing_room, showing_next, showing_row, showing_skip, showing_all     its start, room for a row, a row, one with a mark, one with none, its end
+--     shown_more, shown_row, shown_skip     one row more: any, one with a mark, one with none
+--     Showing w h marks plane d l r     where the walk along the rows stands at row r
+--     showing_row, showing_skip     one row more: one with a mark, one with none
 -- Assumes nothing.
 use mathlib.Core.List.{List}
 use mathlib.Core.Logic.{⊎_elim}
 use mathlib.Core.Path.{◌≡◌, refl, sym, ap, ◌∙◌, subst}
 use Prim.Native.Nat.{ℕ, ◌+◌, ◌-◌, ◌*◌, ◌/◌, ◌%◌, ◌^◌, ◌≤◌, ◌<◌}
-use native.Mathlib.Nat.{eq-or-lt_of_le, mul_comm, mul-le-mul_right}
+use native.Mathlib.Nat.{eq-or-lt_of_le, mul_comm}
 use native.Mathlib.Omega.{arith}
 use borrow.Author.Tests.{le-leb, lt-ltb}
 use lib.Arith.{digits_lt}
@@ -25,7 +24,6 @@ use Rattle.image.proofs.PixelsOf.{binary_at}
 use Rattle.image.specs.Size.{max_side}
 use Rattle.operator.specs.Image.{pixel, IsImage}
 use Rattle.seq.proofs.Bits.{one_digit}
-use Rattle.seq.proofs.Loops.{sweep_none, sweep_join}
 use Rattle.seq.specs.Bits.{bit}
 use Rattle.seq.specs.Lists.{one}
 use Rattle.seq.specs.Loops.{Swept}
@@ -37,9 +35,6 @@ pub record Unfolding (plane d l : List ℕ) (from to s : ℕ) : Type 0 where
   pub after : (j : ℕ) → to + max_side ≤ j → get_or l j 0 ≡ get_or d j 0
 
 module _ {plane d : List ℕ} {from to : ℕ} where
-  pub unfold_none : Unfolding plane d d from to 0
-  unfold_none = record { long = refl; pixels = λ k n a b c. absurd (omega arith); before = λ j a. refl; after = λ j a. refl }
-
   unfold_more : {l : List ℕ} {s : ℕ} (k n next at v : ℕ) → Unfolding plane d l from to s → to + max_side ≤ length d → k < band → n < 4 → s ≡ 4 * k + n
       → next ≡ 4 * k + n + 1 → at ≡ to + (band * n + k) → v ≡ get_or plane (from + k) 0 / 2 ^ (2 * n + 1) % 2 → Unfolding plane d (set l at v) from to next
   unfold_more {l} k n next at v u room a b e f p q =
@@ -68,16 +63,6 @@ module _ {plane d : List ℕ} {from to : ℕ} where
       kept : (i m : ℕ) → i < band → m < 4 → 4 * i + m < 4 * k + n → Right i m
       kept i m x y z = other _ (omega arith) ∙ u.pixels i m x y (omega arith)
 
-  -- a byte's four pixels
-  pub unfold_turn : {l : List ℕ} {k : ℕ} (x : ℕ) → Unfolding plane d l from to (4 * k) → to + max_side ≤ length d → k < band → x ≡ get_or plane (from + k) 0 → x < 256
-      → Unfolding plane d (set (set (set (set l (to + k) (x / 2 ^ 1 % 2)) (to + 64 + k) (x / 2 ^ 3 % 2)) (to + 128 + k) (x / 2 ^ 5 % 2)) (to + 192 + k) (x / 2 ^ 7))
-      from to (4 * (k + 1))
-  unfold_turn {k = k} x u room a e b =
-      let first = unfold_more k 0 (4 * k + 1) (to + k) (x / 2 ^ 1 % 2) u room a (omega arith) (omega arith) (omega arith) (omega arith) (rw e refl) in
-      let second = unfold_more k 1 (4 * k + 2) (to + 64 + k) (x / 2 ^ 3 % 2) first room a (omega arith) (omega arith) (omega arith) (omega arith) (rw e refl) in
-      let third = unfold_more k 2 (4 * k + 3) (to + 128 + k) (x / 2 ^ 5 % 2) second room a (omega arith) (omega arith) (omega arith) (omega arith) (rw e refl) in
-      unfold_more k 3 (4 * (k + 1)) (to + 192 + k) (x / 2 ^ 7) third room a (omega arith) (omega arith) (omega arith) (omega arith) (rw (← e) (omega arith))
-
   pub unfold_all : {l : List ℕ} {s : ℕ} → Unfolding plane d l from to s → 4 * band ≤ s → Swept (λ j. unfolded plane from (j - to)) d l to (to + max_side)
   unfolding unfolded
   unfold_all {l} u q = record { long = u.long; inner = inner; before = u.before; after = u.after }
@@ -86,16 +71,6 @@ module _ {plane d : List ℕ} {from to : ℕ} where
       inner j a b =
           let e : to + (band * ((j - to) / band) + (j - to) % band) ≡ j = omega arith in
           rw e at (u.pixels ((j - to) % band) ((j - to) / band) (omega arith) (omega arith) (omega arith))
-
--- a row of less than full width
-pub unfold_copied : (plane : List ℕ) (from : ℕ) {none line d l : List ℕ} {to w : ℕ} → Swept (λ j. unfolded plane from (j - 0)) none line 0 (0 + max_side)
-    → Swept (λ j. get_or line (0 + (j - to)) 0) d l to (to + w) → w ≤ max_side → Swept (λ j. unfolded plane from (j - to)) d l to (to + w)
-unfold_copied plane from {line = line} {to = to} {w = w} u s fits = sweep_join (sweep_none _ _ _) s (omega arith) (omega arith) same
-  where
-    same : (j : ℕ) → to ≤ j → j < to + w → get_or line (0 + (j - to)) 0 ≡ unfolded plane from (j - to)
-    same j a b =
-        let e : 0 + (j - to) - 0 ≡ j - to = omega arith in
-        rw e at (u.inner (0 + (j - to)) (omega arith) (omega arith))
 
 pub coded_pixel : {w h : ℕ} {img plane : List ℕ} {from : ℕ} → IsImage w h img → Packed w h img plane → w ≤ max_side
     → (r c : ℕ) → r < h → c < w → from ≡ (r + rim) * step + halo → unfolded plane from c ≡ pixel w img r c
@@ -111,10 +86,6 @@ coded_pixel {w} {h} {img} {plane} {from} i p fits r c a b e =
         let g : r + rim - rim ≡ r = omega arith in
         let f : c + halo - halo ≡ c = omega arith in
         rw (le-leb rim (r + rim) (omega arith), le-leb halo (c + halo) (omega arith), g, f, lt-ltb r h a, lt-ltb c w b) refl
-
-shown_none : (w : ℕ) (img marks d : List ℕ) → Shown w 0 img marks d d
-shown_none w img marks d =
-    record { long = refl; marked = λ r c a b. absurd (omega arith); other = λ r c a b m. refl; behind = λ j a. refl }
 
 module _ {w n : ℕ} {img marks d l : List ℕ} (s : Shown w n img marks d l) where
   -- a row more, of which all is said that is asked
@@ -150,35 +121,20 @@ module _ {w n : ℕ} {img marks d l : List ℕ} (s : Shown w n img marks d l) wh
   shown_skip : get_or marks n 0 ≡ 0 → Shown w (n + 1) img marks d l
   shown_skip z = shown_more refl (λ j a. refl) (λ j a. refl) (λ c a k. absurd (k z)) (λ c a _. refl)
 
--- a walk along the rows stands at row r: where its bands begin in the plane, and its first pixel
-pub record Showing (w h : ℕ) (marks plane d l : List ℕ) (r from to : ℕ) : Type 0 where
-  pub plane_place : from ≡ (r + rim) * step + halo
-  pub flat_place : to ≡ r * w
+-- a walk along the rows stands at row r
+pub record Showing (w h : ℕ) (marks plane d l : List ℕ) (r : ℕ) : Type 0 where
   pub within_rows : r ≤ h
   pub long : length l ≡ length d
   pub shown : (img : List ℕ) → IsImage w h img → Packed w h img plane → Shown w r img marks d l
 
-pub showing_none : (w h : ℕ) (marks plane d : List ℕ) → Showing w h marks plane d d 0 (rim * step + halo) 0
-showing_none w h marks plane d =
-    record { plane_place = refl; flat_place = omega arith; within_rows = omega arith; long = refl; shown = λ img i p. shown_none w img marks d }
+module _ {w h : ℕ} {marks plane d l : List ℕ} {r : ℕ} (s : Showing w h marks plane d l r) where
+  pub showing_row : {m : List ℕ} (from : ℕ) → from ≡ (r + rim) * step + halo → r < h → w ≤ max_side → Marked marks r
+      → Swept (λ j. unfolded plane from (j - r * w)) l m (r * w) (r * w + w) → Showing w h marks plane d m (r + 1)
+  showing_row from e q fits k t = record {
+    within_rows = omega arith;
+    long = t.long ∙ s.long;
+    shown = λ img i p. shown_row (s.shown img i p) plane from t refl (λ c a. coded_pixel i p fits r c q a e) k;
+  }
 
-module _ {w h : ℕ} {marks plane d l : List ℕ} {r from to : ℕ} (s : Showing w h marks plane d l r from to) where
-  pub showing_room : r < h → (from + step ≤ step * (h + 2 * rim)) × (to + w ≤ w * h)
-  showing_room q = (omega arith, omega (arith, mul-le-mul_right w q, mul_comm w h))
-
-  showing_next : {m : List ℕ} → r < h → length m ≡ length l → ((img : List ℕ) → IsImage w h img → Packed w h img plane → Shown w (r + 1) img marks d m)
-      → Showing w h marks plane d m (r + 1) (from + step) (to + w)
-  showing_next q e f =
-      record { plane_place = omega arith; flat_place = omega arith; within_rows = omega arith; long = e ∙ s.long; shown = f }
-
-  pub showing_row : {m : List ℕ} → r < h → w ≤ max_side → Marked marks r → Swept (λ j. unfolded plane from (j - to)) l m to (to + w)
-      → Showing w h marks plane d m (r + 1) (from + step) (to + w)
-  showing_row q fits k t =
-      showing_next q t.long
-      (λ img i p. shown_row (s.shown img i p) plane from t s.flat_place (λ c a. coded_pixel i p fits r c q a s.plane_place) k)
-
-  pub showing_skip : r < h → get_or marks r 0 ≡ 0 → Showing w h marks plane d l (r + 1) (from + step) (to + w)
-  showing_skip q z = showing_next q refl (λ img i p. shown_skip (s.shown img i p) z)
-
-  pub showing_all : h ≤ r → (img : List ℕ) → IsImage w h img → Packed w h img plane → Shown w h img marks d l
-  showing_all q img i p = let e : r ≡ h = omega arith in rw e at (s.shown img i p)
+  pub showing_skip : r < h → get_or marks r 0 ≡ 0 → Showing w h marks plane d l (r + 1)
+  showing_skip q z = record { within_rows = omega arith; long = s.long; shown = λ img i p. shown_skip (s.shown img i p) z }

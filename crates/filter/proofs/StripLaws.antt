@@ -1,5 +1,5 @@
 -- One pass over a strip, some rows at a time.
---     front_sum                               the first i + 1 numbers add up to no more than all
+--     sum_as                                  the library's sum
 --     totalled_stable, totalled_limit         the answer, by the test of the code
 --     area_few                                the largest strip
 --     row_changes t w h px from n              the changes in some rows
@@ -10,15 +10,17 @@
 --     within_room, over_room                  whether there is room for all changes
 -- Assumes nothing.
 use mathlib.Core.Bool.{false}
-use mathlib.Core.List.{List}
+use mathlib.Core.List.{List, [], ◌∷◌}
 use mathlib.Core.Path.{◌≡◌, refl, sym, ap, ap₂, ◌∙◌, subst}
-use Prim.Native.Nat.{ℕ, ◌+◌, ◌-◌, ◌*◌, ◌≤◌, ◌<◌}
+use Prim.Native.Nat.{ℕ, ◌+◌, ◌-◌, ◌*◌, ◌≤◌}
 use native.Mathlib.Nat.{mul-add, mul-zero, mul-le-mul, mul-le-mul_left}
 use native.Mathlib.Omega.{arith}
 use borrow.Author.Tests.{eq-eqb, ne_eqb, le-ltb}
 use lib.Dec.{ltb}
-use lib.ListN.{length, get_or, take, drop, take-append-drop}
+use lib.ListN.{length}
 use lib.Seq.{take_all}
+use Rattle.std.specs.List.{sum}
+use Rattle.std.proofs.lemmas.List.Sums.{sum_by-cons}
 use Rattle.filter.specs.declared.Crossed.{Crossed}
 use Rattle.filter.specs.declared.End.TheVariants as ending
 use Rattle.filter.specs.Code.Strip.{Tall, RowsChanged, RowsMade, totalled}
@@ -32,14 +34,12 @@ use Rattle.operator.specs.Pass.{pass}
 use Rattle.operator.proofs.Bands.{rows_length, pass_length}
 use Rattle.operator.proofs.PartCounts.{changed_few, added_rows, removed_rows}
 use Rattle.seq.specs.Lists.{sum_of}
-use Rattle.seq.proofs.Fronts.{sum_front}
-use Rattle.seq.proofs.Lists.{sum_of_append}
 use Rattle.seq.proofs.Loops.{sweep_none, sweep_end, sweep_join}
 use Rattle.table.specs.declared.Table.{Table}
 
-pub front_sum : (l : List ℕ) (i : ℕ) → i < length l → sum_of (take i l) + get_or l i 0 ≤ sum_of l
-front_sum l i h =
-    omega (arith, sum_front l i h, sum_of_append (take (i + 1) l) (drop (i + 1) l), ap sum_of (take-append-drop (i + 1) l))
+pub sum_as : (l : List ℕ) → sum l ≡ sum_of l
+sum_as [] = refl
+sum_as (x ∷ l) = sum_by-cons (λ n. n) x l ∙ ap (λ n. x + n) (sum_as l)
 
 module _ (c : PartCounts) {x y : ℕ} (p : x ≡ sum_of c.added) (q : y ≡ sum_of c.removed) where
   pub totalled_stable : x + y ≡ 0 → ◌≡◌ {A = Crossed} (record { added = x; removed = y; parts = c; end = ending.Stable }) (totalled c)

@@ -1,11 +1,11 @@
 -- The walk over the parts of a strip.
 --     PartsMade t w h px hs d l more less from i     the first i parts are written and counted, and from is the row behind them
---     parts_none, parts_fit, parts_more, parts_all   its start, the part at hand, one part more, and its end
+--     parts_fit, parts_more, parts_all   the part at hand, one part more, and its end
 -- Assumes nothing.
 use mathlib.Core.List.{List, ◌++◌}
 use mathlib.Core.Path.{◌≡◌, refl, sym, ap, ap₂, ◌∙◌, subst}
 use Prim.Native.Nat.{ℕ, ◌+◌, ◌*◌, ◌≤◌, ◌<◌}
-use native.Mathlib.Nat.{mul-zero, mul-le-mul_left}
+use native.Mathlib.Nat.{mul-le-mul_left}
 use native.Mathlib.Omega.{arith}
 use lib.ListN.{length, get_or, drop, set, replicate, get_or-replicate}
 use lib.Seq.{take_all}
@@ -23,8 +23,8 @@ use Rattle.seq.specs.Loops.{Swept}
 use Rattle.seq.specs.Tab.{Filled}
 use Rattle.seq.proofs.Fronts.{sum_front}
 use Rattle.seq.proofs.Joins.{fill_rest}
-use Rattle.seq.proofs.Loops.{sweep_none, sweep_end, sweep_join, sweep_front}
-use Rattle.seq.proofs.Tab.{tab_get_d, fill_none, fill_more}
+use Rattle.seq.proofs.Loops.{sweep_end, sweep_join, sweep_front}
+use Rattle.seq.proofs.Tab.{tab_get_d, fill_more}
 use Rattle.table.specs.declared.Table.{Table}
 use Rattle.verdict.specs.Writer.{over}
 
@@ -38,15 +38,6 @@ pub record PartsMade (t : Table) (w h : ℕ) (px hs d l more less : List ℕ) (f
   pub filled : Swept (λ j. get_or (pass t w h px) j 0) d l 0 (w * from)
   pub added : Filled (added_in w hs px (pass t w h px)) zeros more i
   pub removed : Filled (removed_in w hs px (pass t w h px)) zeros less i
-
-pub parts_none : (t : Table) (w h : ℕ) (px hs d : List ℕ) → PartsMade t w h px hs d d zeros zeros 0 0
-parts_none t w h px hs d = record {
-  within = omega arith;
-  place = refl;
-  filled = sweep_end (w * 0) (sweep_none _ d 0) (sym (mul-zero w));
-  added = fill_none _ zeros;
-  removed = fill_none _ zeros;
-}
 
 module _ {t : Table} {w h : ℕ} {px hs d l more less : List ℕ} {from i : ℕ} (s : PartsMade t w h px hs d l more less from i) where
   module _ (here : i < length hs) where

@@ -4,6 +4,7 @@
 --     switches_held       of an accepted table, a pixel switches exactly where it is held for the other value
 --     switched_pass       so the image is that after one pass
 -- Assumes nothing.
+use Rattle.std.specs.Prelude.{Ok}
 use mathlib.Core.Bool.{Bool, true, false, cond, not, ◌&&◌}
 use mathlib.Core.List.{List}
 use mathlib.Core.Path.{◌≡◌, refl, sym, ap, ◌∙◌, subst}
@@ -19,14 +20,13 @@ use Rattle.operator.proofs.Kept.{opened_kept}
 use Rattle.seq.proofs.Grid.{grid_ext}
 use Rattle.table.specs.declared.Table.{Table}
 use Rattle.table.specs.Record.{record_verdict}
-use Rattle.verdict.specs.declared.Verdict.TheVariants.{Accepted}
 
 pub turned_switched : (t : Table) (w h : ℕ) (img : List ℕ) → turned (switches t w h img) w h img ≡ switched t w h img
 unfolding turned switched switched_at
 turned_switched t w h img = refl
 
 -- with an accepted table an opened pixel is not held against its value
-module _ (t : Table) (w h : ℕ) (img : List ℕ) (m : IsImage w h img) (ok : record_verdict t ≡ Accepted) where
+module _ (t : Table) (w h : ℕ) (img : List ℕ) (m : IsImage w h img) (ok : record_verdict t ≡ Ok tt) where
   pub switches_held : (r c : ℕ) → r < h → c < w → switches t w h img r c ≡ held t w h img (1 - pixel w img r c) r c
   unfolding switches
   switches_held r c i j = by (opened t w h img (pixel w img r c) r c) refl

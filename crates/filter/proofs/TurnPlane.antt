@@ -1,6 +1,6 @@
 -- Codes exchanged where the pixel changes (the module `turn`).
 --     toggled x f m v                    code v of lane m of a byte x, exchanged where a flip stands in f
---     exchanged_none, exchanged_more     a loop's start and one byte more
+--     exchanged_more     one byte more
 --     row_packed                         the plane after one row more is turned
 -- Assumes nothing.
 use mathlib.Core.Bool.{Bool, true, false, cond, not, ◌&&◌, ◌||◌}
@@ -31,10 +31,6 @@ use Rattle.filter.proofs.TurnImage.{before, passed, turned_at, turned_at_lem}
 
 abbrev pub toggled : ℕ → ℕ → ℕ → ℕ → Bool
 toggled x f m v = not (same (bit x (2 * m + v)) (bit f (2 * m + v) || bit f (2 * m + (1 - v))))
-
-pub exchanged_none : (flips : List ℕ) (from : ℕ) (d : List ℕ) (at : ℕ) → Exchanged flips from d d at 0
-exchanged_none flips from d at =
-    record { long = refl; coded = λ k m v p q r. absurd (omega arith); before = λ j p. refl; after = λ j p. refl }
 
 module _ {flips : List ℕ} {from : ℕ} {d l : List ℕ} {at n : ℕ} (s : Exchanged flips from d l at n) (room : at + n < length d) (o : ℕ)
     (opposite : (m v : ℕ) → m < 4 → v < 2 → bit o (2 * m + v) ≡ bit (get_or flips (from + n) 0) (2 * m + (1 - v))) where

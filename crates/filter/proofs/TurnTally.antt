@@ -1,5 +1,5 @@
 -- Counting the flips (the module `turn`).
---     pairs, pairs_le             the sums of neighbouring bits that the code makes, and a bound
+--     pairs             the sums of neighbouring bits that the code makes
 --     ones_lanes                  they count the lanes with bit 0, over all bytes
 --     lanes_half, lanes_le        the lanes with bit 1, and that there are at most four
 --     tallied_none, tallied_more  a loop's start and one byte more
@@ -15,7 +15,7 @@ use Prim.Native.Nat.{ℕ, zero, suc, ◌+◌, ◌-◌, ◌*◌, ◌/◌, ◌≤�
 use native.Mathlib.Numerals.{add-one}
 use native.Mathlib.Omega.{arith}
 use borrow.Author.Tests.{eqb-true}
-use lib.Bits.{bit_and, and_le_r}
+use lib.Bits.{bit_and}
 use lib.Dec.{eqb}
 use lib.ListN.{get_or}
 use Rattle.seq.specs.Bits.{bit}
@@ -31,9 +31,6 @@ use Rattle.filter.specs.Code.Turn.{lane_count, tallied}
 
 abbrev pub pairs : ℕ → ℕ
 pairs f = bit_and (bit_and f 85) 51 + bit_and (bit_and f 85 / 4) 51
-
-pub pairs_le : (f : ℕ) → pairs f ≤ 102
-pairs_le f = omega (arith, and_le_r (bit_and f 85) 51, and_le_r (bit_and f 85 / 4) 51)
 
 ones_all : all (λ f. eqb (bit_and (pairs f) 15 + pairs f / 16) (lane_count 0 f)) (up_to 256) ≡ true
 unfolding lane_count bit up_to

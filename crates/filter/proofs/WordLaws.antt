@@ -7,16 +7,13 @@
 --     word_end                      words are the numbers below it
 --     place s, place_is            bit s as a number, as the code makes it
 --     Lowest x s, lowest           bit s is the lowest of a word x that is not 0
---     four_bytes, word_bytes       bytes that are added up to a number
 --     five_codes                   the codes of a lane in the first five bytes of a word
---     put_bytes                    a number that is stored as eight bytes
 -- Assumes nothing.
 use mathlib.Core.Bool.{true, false}
 use mathlib.Core.List.{List, [], ◌∷◌}
-use mathlib.Core.Logic.{⊎_elim}
 use mathlib.Core.Path.{◌≡◌, refl, sym, ap, ◌∙◌}
 use Prim.Native.Nat.{ℕ, zero, suc, ◌+◌, ◌-◌, ◌*◌, ◌/◌, ◌%◌, ◌^◌, ◌≤◌, ◌<◌, suc-le-suc}
-use native.Mathlib.Nat.{add_comm, add-zero, mod-eq_of_lt, pow-suc}
+use native.Mathlib.Nat.{add_comm, mod-eq_of_lt, pow-suc}
 use native.Mathlib.Omega.{arith}
 use lib.Count.{count_trailing_zeros, under}
 use lib.Dec.{eqb}
@@ -26,9 +23,8 @@ use Rattle.seq.specs.Bits.{bit}
 use Rattle.seq.specs.Loops.{Swept}
 use Rattle.seq.specs.Tab.{tab}
 use Rattle.seq.proofs.Bits.{bit_one, one_bit, bit_none, bit_half, bit_shr}
-use Rattle.seq.proofs.Loops.{sweep_none, sweep_more}
+use Rattle.seq.proofs.Loops.{sweep_more}
 use Rattle.seq.proofs.Tab.{tab_ext}
-use Rattle.seq.proofs.Tests.{lt_or_le}
 use Rattle.filter.specs.Code.Elements.{code_of}
 use Rattle.filter.specs.Code.Judge.{Bytes}
 
@@ -135,35 +131,6 @@ lowest x z l =
       within = omega (arith, set_le x (count_trailing_zeros 64 x) w.1);
     }
 
-module _ (b : List ℕ) (at : ℕ) where
-  pub four_bytes : {p q r s : ℕ} → (p ≡ get_or b at 0) × (p < 256) → (q ≡ get_or b (at + 1) 0) × (q < 256) → (r ≡ get_or b (at + 2) 0) × (r < 256)
-      → (s ≡ get_or b (at + 3) 0) × (s < 256) → Bytes 4 b at (p + 256 * q + 65536 * r + 16777216 * s) × (p + 256 * q + 65536 * r + 16777216 * s < 4294967296)
-  four_bytes {p} {q} {r} {s} hp hq hr hs = (each, omega arith)
-    where
-      each : Bytes 4 b at (p + 256 * q + 65536 * r + 16777216 * s)
-      each zero l = rw add-zero (omega arith)
-      each (suc zero) l = omega arith
-      each (suc (suc zero)) l = omega arith
-      each (suc (suc (suc zero))) l = omega arith
-      each (suc (suc (suc (suc i)))) l = absurd (omega arith)
-
-  pub word_bytes : {x y : ℕ} → Bytes 4 b at x × (x < 4294967296) → Bytes 4 b (at + 4) y × (y < 4294967296) → Bytes 8 b at (x + 4294967296 * y)
-  word_bytes {x} {y} lo hi i l = ⊎_elim (λ a. low i a ∙ lo.0 i a) high (lt_or_le i 4)
-    where
-      low : (i : ℕ) → i < 4 → (x + 4294967296 * y) / 2 ^ (8 * i) % 256 ≡ x / 2 ^ (8 * i) % 256
-      low zero l = omega arith
-      low (suc zero) l = omega arith
-      low (suc (suc zero)) l = omega arith
-      low (suc (suc (suc zero))) l = omega arith
-      low (suc (suc (suc (suc i)))) l = absurd (omega arith)
-
-      high : 4 ≤ i → (x + 4294967296 * y) / 2 ^ (8 * i) % 256 ≡ get_or b (at + i) 0
-      high a =
-          let e : 8 * i ≡ 32 + 8 * (i - 4) = omega arith in
-          let q : at + i ≡ at + 4 + (i - 4) = omega arith in
-          let z : (x + 4294967296 * y) / 4294967296 ≡ y = omega arith in
-          rw (e, q, ← shr-shr (x + 4294967296 * y) 32 (8 * (i - 4)), z) (hi.0 (i - 4) (omega arith))
-
 -- the lane of five bytes in a word that is shifted down
 pub five_codes : (b : List ℕ) (at w l : ℕ) → l < 4 → Bytes 8 b at w → {p q r s t : ℕ} → p ≡ w / 2 ^ (2 * l) % 4 → q ≡ w / 2 ^ (2 * l) / 256 % 4
     → r ≡ w / 2 ^ (2 * l) / 65536 % 4 → s ≡ w / 2 ^ (2 * l) / 16777216 % 4 → t ≡ w / 2 ^ (2 * l) / 4294967296 % 4
@@ -179,12 +146,3 @@ module _ (x : ℕ) (d : List ℕ) (at : ℕ) (h : at + 8 ≤ length d) where
   store : {l : List ℕ} {v : ℕ} (k : ℕ) → Swept (λ j. x / 2 ^ (8 * (j - at)) % 256) d l at (at + k) → k < 8 → v ≡ x / 2 ^ (8 * k) % 256
       → Swept (λ j. x / 2 ^ (8 * (j - at)) % 256) d (set l (at + k) v) at (at + (k + 1))
   store k w l e = let q : at + k - at ≡ k = omega arith in sweep_more _ w (omega arith) (omega arith) (rw q e) (omega arith)
-
-  pub put_bytes : {a b c e f g i j : ℕ} → a ≡ x % 256 → b ≡ x / 256 % 256 → c ≡ x / 65536 % 256 → e ≡ x / 16777216 % 256 → f ≡ x / 4294967296 % 256
-      → g ≡ x / 1099511627776 % 256 → i ≡ x / 281474976710656 % 256 → j ≡ x / 72057594037927936 % 256
-      → Swept (λ j. x / 2 ^ (8 * (j - at)) % 256) d
-      (set (set (set (set (set (set (set (set d at a) (at + 1) b) (at + 2) c) (at + 3) e) (at + 4) f) (at + 5) g) (at + 6) i) (at + 7) j) at (at + 8)
-  put_bytes ha hb hc he hf hg hi hj =
-      let z : at - at ≡ 0 = omega arith in
-      store 7 (store 6 (store 5 (store 4 (store 3 (store 2 (store 1 (sweep_more (at + 1) (sweep_none _ d at) (omega arith) (omega arith) (rw z (ha ∙ omega arith)) refl)
-      (omega arith) hb) (omega arith) hc) (omega arith) he) (omega arith) hf) (omega arith) hg) (omega arith) hi) (omega arith) hj

@@ -10,9 +10,8 @@
 --     again t w h px n              the answer of `again`; again_area t w h px area: the area afterwards
 --     Again t w h px area           `again` is `pass`; AllAgain: for every accepted table
 -- Assumes nothing.
-use Rattle.std.specs.Prelude.{Bool, cond, not, ◌&&◌, List, [], ◌∷◌, ◌≡◌, ℕ, ◌-◌, ◌*◌, ◌/◌, ◌%◌, leb, length}
-use Rattle.filter.specs.declared.Filtered.{Filtered}
-use Rattle.filter.specs.declared.Filtered.TheVariants as filtering
+use Rattle.std.specs.Prelude.{Bool, cond, not, ◌&&◌, List, [], ◌∷◌, ◌≡◌, ℕ, ◌-◌, ◌*◌, ◌/◌, ◌%◌, leb, length, Ok, Err}
+use Rattle.filter.specs.Answers.{Filtered}
 use Rattle.operator.specs.Image.{pixel, added, removed}
 use Rattle.operator.specs.Pass.{opened, held, pass}
 use Rattle.image.specs.File.{pixel_verdict, area_rule}
@@ -21,14 +20,12 @@ use Rattle.seq.specs.Tab.{tab}
 use Rattle.table.specs.declared.Table.{Table}
 use Rattle.table.specs.Mask.{valid_mask}
 use Rattle.table.specs.Record.{max_elements, max_ranks, masks, record_verdict}
-use Rattle.verdict.specs.declared.Verdict.{Verdict}
-use Rattle.verdict.specs.declared.Verdict.TheVariants.{Accepted, Refused}
-use Rattle.verdict.specs.Rules.{judge}
+use Rattle.verdict.specs.Rules.{judge, Verdict}
 use Rattle.verdict.specs.Writer.{output_of}
 
 abbrev pub counts_as : Verdict → List ℕ → List ℕ → Filtered
-counts_as Accepted px next = filtering.Counts (added px next) (removed px next)
-counts_as (Refused r) px next = filtering.Refused r
+counts_as (Ok _) px next = Ok (record { added = added px next; removed = removed px next })
+counts_as (Err r) px next = Err r
 
 unfoldable pub pass_verdict : Table → ℕ → ℕ → List ℕ → ℕ → Verdict
 pass_verdict t w h px n = judge (record_verdict t ∷ pixel_verdict w h px ∷ area_rule w h n ∷ [])
@@ -52,7 +49,7 @@ unfoldable pub ranged : Table → Bool
 ranged t = (leb t.count max_elements && leb t.ranks max_ranks) && all valid_mask (masks t)
 
 unfoldable pub range_verdict : Table → Verdict
-range_verdict t = cond (ranged t) Accepted (record_verdict t)
+range_verdict t = cond (ranged t) (Ok tt) (record_verdict t)
 
 unfoldable pub again_verdict : Table → ℕ → ℕ → List ℕ → ℕ → Verdict
 again_verdict t w h px n = judge (range_verdict t ∷ pixel_verdict w h px ∷ area_rule w h n ∷ [])
@@ -68,4 +65,4 @@ pub record Again (t : Table) (w h : ℕ) (px area : List ℕ) : Type 0 where
   pub left : again_area t w h px area ≡ filtered_area t w h px area
 
 abbrev pub AllAgain : Type 0
-AllAgain = (t : Table) (w h : ℕ) (px area : List ℕ) → record_verdict t ≡ Accepted → Again t w h px area
+AllAgain = (t : Table) (w h : ℕ) (px area : List ℕ) → record_verdict t ≡ Ok tt → Again t w h px area

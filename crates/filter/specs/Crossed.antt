@@ -2,13 +2,12 @@
 --     cross_verdict t p px n       the table's rules; those of the strip with its pixel bytes; 13 on an area of n bytes
 --     across t p px               the strip after one pass, as one image
 --     overfull room a b           from a to b more pixels change than there is room for
---     uncrossed e                 no pass is made, for the reason e
---     crossed t p room px n       the answer; crossed_as v ..: by that verdict, crossed_if b ..: by whether there is room
+--     uncrossed                   no pass is made, since there is no room for it
+--     crossed t p room px n       the answer, or the refusal; crossed_if b ..: by whether there is room
 --     crossed_area t p room px area    the area afterwards; crossed_area_as v ..: by that verdict
 -- Assumes nothing.
-use Rattle.std.specs.Prelude.{Bool, true, false, cond, List, [], ◌∷◌, ℕ, ◌+◌, ltb, length}
+use Rattle.std.specs.Prelude.{Bool, true, false, cond, List, [], ◌∷◌, ℕ, ◌+◌, ltb, length, Ok, Err, Result}
 use Rattle.filter.specs.declared.Crossed.{Crossed}
-use Rattle.filter.specs.declared.End.{End}
 use Rattle.filter.specs.declared.End.TheVariants as ending
 use Rattle.image.specs.declared.strip.Strip.{Strip}
 use Rattle.image.specs.File.{area_rule}
@@ -18,9 +17,8 @@ use Rattle.operator.specs.Parts.{part_counts}
 use Rattle.operator.specs.Pass.{pass}
 use Rattle.table.specs.declared.Table.{Table}
 use Rattle.table.specs.Record.{record_verdict}
-use Rattle.verdict.specs.declared.Verdict.{Verdict}
-use Rattle.verdict.specs.declared.Verdict.TheVariants.{Accepted, Refused}
-use Rattle.verdict.specs.Rules.{judge}
+use Rattle.verdict.specs.declared.Refusal.{Refusal}
+use Rattle.verdict.specs.Rules.{judge, result_of, Verdict}
 use Rattle.verdict.specs.Writer.{over}
 
 unfoldable pub cross_verdict : Table → Strip → List ℕ → ℕ → Verdict
@@ -32,11 +30,11 @@ across t p px = pass t (strip_width p) (strip_height p) px
 abbrev pub overfull : ℕ → List ℕ → List ℕ → Bool
 overfull room a b = ltb room (added a b + removed a b)
 
-abbrev pub uncrossed : End → Crossed
-uncrossed e = record { added = 0; removed = 0; parts = no_counts; end = e }
+abbrev pub uncrossed : Crossed
+uncrossed = record { added = 0; removed = 0; parts = no_counts; end = ending.Full }
 
 abbrev pub crossed_if : Bool → Strip → List ℕ → List ℕ → Crossed
-crossed_if true p a b = uncrossed ending.Full
+crossed_if true p a b = uncrossed
 crossed_if false p a b =
     record {
       added = added a b;
@@ -45,16 +43,12 @@ crossed_if false p a b =
       end = cond (differs a b) ending.Limit ending.Stable;
     }
 
-abbrev pub crossed_as : Verdict → Table → Strip → ℕ → List ℕ → Crossed
-crossed_as Accepted t p room px = crossed_if (overfull room px (across t p px)) p px (across t p px)
-crossed_as (Refused r) t p room px = uncrossed (ending.Refused r)
-
-unfoldable pub crossed : Table → Strip → ℕ → List ℕ → ℕ → Crossed
-crossed t p room px n = crossed_as (cross_verdict t p px n) t p room px
+unfoldable pub crossed : Table → Strip → ℕ → List ℕ → ℕ → Result Crossed Refusal
+crossed t p room px n = result_of (cross_verdict t p px n) (crossed_if (overfull room px (across t p px)) p px (across t p px))
 
 abbrev pub crossed_area_as : Verdict → Table → Strip → ℕ → List ℕ → List ℕ → List ℕ
-crossed_area_as Accepted t p room px area = cond (overfull room px (across t p px)) area (over (across t p px) area)
-crossed_area_as (Refused r) t p room px area = area
+crossed_area_as (Ok _) t p room px area = cond (overfull room px (across t p px)) area (over (across t p px) area)
+crossed_area_as (Err r) t p room px area = area
 
 unfoldable pub crossed_area : Table → Strip → ℕ → List ℕ → List ℕ → List ℕ
 crossed_area t p room px area = crossed_area_as (cross_verdict t p px (length area)) t p room px area

@@ -5,8 +5,7 @@
 use Rattle.std.specs.Prelude.{List, ℕ, length}
 use Rattle.image.specs.File.{pixel_verdict, area_rule}
 use Rattle.operator.specs.Preview.{preview}
-use Rattle.verdict.specs.declared.Verdict.{Verdict}
-use Rattle.verdict.specs.Rules.{or_else}
+use Rattle.verdict.specs.Rules.{or_else, Verdict}
 use Rattle.verdict.specs.Writer.{output_of}
 
 unfoldable pub preview_verdict : ℕ → ℕ → List ℕ → ℕ → Verdict

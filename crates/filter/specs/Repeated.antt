@@ -7,10 +7,11 @@
 --     rested t w h c        after a pass that changes none: the image stands in both
 --     Ended                 why passes end, and where
 --     follow t w h b n c    at most n passes that change pixels
---     repeated t w h b f s  the passes from an image in the area f; refused as `pass` refuses; repeated_as v ..: by that verdict
---     answered e            the answer; first_area e, second_area e: the areas afterwards. The image stands in the first after an even number of passes
+--     repeated t w h b f s  the passes from an image in the area f; refused as `pass` refuses
+--     answered e            what they answer; first_area e, second_area e: the areas afterwards. The image stands in the first after an even number of passes
+--     answer r              the answer of passes that may be refused; leaves area r l: what they leave in l, which a refusal does not alter
 -- Assumes nothing.
-use Rattle.std.specs.Prelude.{Bool, cond, ◌||◌, List, ℕ, zero, suc, ◌+◌, ◌*◌, ◌%◌, ltb, eqb, length, take}
+use Rattle.std.specs.Prelude.{Bool, cond, ◌||◌, List, ℕ, zero, suc, ◌+◌, ◌*◌, ◌%◌, ltb, eqb, length, take, Ok, Err, Result}
 use Rattle.filter.specs.declared.Budget.{Budget}
 use Rattle.filter.specs.declared.End.{End}
 use Rattle.filter.specs.declared.End.TheVariants as ending
@@ -19,8 +20,8 @@ use Rattle.filter.specs.Applied.{pass_verdict}
 use Rattle.operator.specs.Image.{added, removed, differs}
 use Rattle.operator.specs.Pass.{pass}
 use Rattle.table.specs.declared.Table.{Table}
-use Rattle.verdict.specs.declared.Verdict.{Verdict}
-use Rattle.verdict.specs.declared.Verdict.TheVariants.{Accepted, Refused}
+use Rattle.verdict.specs.declared.Refusal.{Refusal}
+use Rattle.verdict.specs.Rules.{result_of}
 use Rattle.verdict.specs.Writer.{over}
 
 pub record Trail : Type 0 where
@@ -66,12 +67,8 @@ follow t w h b (suc n) c =
     (cond (stops t w h b c) (record { end = ending.Full; trail = c }) (follow t w h b n (onward t w h c)))
     (record { end = ending.Stable; trail = rested t w h c })
 
-abbrev pub repeated_as : Verdict → Table → ℕ → ℕ → Budget → Trail → Ended
-repeated_as Accepted t w h b c = follow t w h b b.limit c
-repeated_as (Refused r) t w h b c = record { end = ending.Refused r; trail = c }
-
-unfoldable pub repeated : Table → ℕ → ℕ → Budget → List ℕ → List ℕ → Ended
-repeated t w h b f s = repeated_as (pass_verdict t w h (take (w * h) f) (length s)) t w h b (begin f s)
+unfoldable pub repeated : Table → ℕ → ℕ → Budget → List ℕ → List ℕ → Result Ended Refusal
+repeated t w h b f s = result_of (pass_verdict t w h (take (w * h) f) (length s)) (follow t w h b b.limit (begin f s))
 
 abbrev pub answered : Ended → Repeated
 answered e = record { passes = e.trail.passes; added = e.trail.added; removed = e.trail.removed; end = e.end }
@@ -81,3 +78,11 @@ first_area e = cond (eqb (e.trail.passes % 2) 0) e.trail.here e.trail.there
 
 unfoldable pub second_area : Ended → List ℕ
 second_area e = cond (eqb (e.trail.passes % 2) 0) e.trail.there e.trail.here
+
+abbrev pub answer : Result Ended Refusal → Result Repeated Refusal
+answer (Ok e) = Ok (answered e)
+answer (Err r) = Err r
+
+abbrev pub leaves : (Ended → List ℕ) → Result Ended Refusal → List ℕ → List ℕ
+leaves area (Ok e) l = area e
+leaves area (Err r) l = l

@@ -1,16 +1,17 @@
 // Candidates: pixels that may change. What is left out is proved not to change; the element test judges what is left.
 ghost use Rattle.std.specs.Prelude.{true, ◌≡◌, ℕ, ◌+◌, ◌%◌, ◌≤◌, ◌<◌, length, get_or, take};
-ghost use Rattle.filter.specs.Code.Candidate.{TwoOf, Among, Added, Evened, Parts, pairs_of, Joined, Narrowed};
+ghost use Rattle.filter.specs.Code.Candidate.{TwoOf, Among, Added, Evened, Parts, paired, Joined, Narrowed};
 ghost use Rattle.filter.specs.Code.Opening.{farthest, held_within, Shifts};
 ghost use Rattle.filter.specs.Code.Plane.{band};
-ghost use Rattle.filter.specs.Code.Sweep.{Fours, Reach};
+ghost use Rattle.filter.specs.Code.Sweep.{Fours};
 ghost use Rattle.seq.specs.Bits.{bit};
 ghost use Rattle.seq.specs.Lists.{all};
-ghost use Rattle.seq.specs.Loops.{Swept};
 ghost use Rattle.table.specs.Mask.{valid_mask};
 ghost use Rattle.table.specs.Record.{max_elements};
 
+use crate::masks::Masks;
 use crate::plane::BAND;
+use crate::sweep::Weave;
 use crate::{plane, sweep};
 use table::mask::POSITIONS;
 
@@ -21,6 +22,7 @@ pub(crate) const PARTS: usize = 128;
 const CENTRE: usize = 2 * plane::STEP + 2;
 
 // What `candidates` sweeps: the shifts of the only element, or two of each element. How many.
+// kept: a list with its count beside it, since memory is fixed and there is no heap
 pub(crate) fn parts_of(elements: &[u32], at: &mut [usize; PARTS]) -> usize
     requires { (all valid_mask elements.now ≡ true) × (length elements.now ≤ max_elements) × (length at.old ≡ 128) }
     ensures { (result ≤ 128) × Parts elements.now (take result at.new) × (length at.new ≡ 128) }
@@ -39,9 +41,7 @@ fn only(element: u32, at: &mut [usize; PARTS]) -> usize
 {
     let mut own = [0usize; sweep::SHIFTS];
     let n = sweep::shifts(element, &mut own);
-    for i in 0..n {
-        at[i] = own[i];
-    }
+    at[..n].copy_from_slice(&own[..n]);
     n
 }
 
@@ -51,8 +51,8 @@ fn plan(elements: &[u32], at: &mut [usize; PARTS]) -> usize
     ensures { (result ≤ 128) × Parts elements.now (take result at.new) × (length at.new ≡ 128) }
 {
     let mut n = 0;
-    for i in 0..elements.len() {
-        n = add_pair(elements[i], at, n);
+    for e in elements {
+        n = add_pair(*e, at, n);
     }
     even(at, n)
 }
@@ -91,12 +91,10 @@ fn is_among(pairs: &[usize; PARTS], count: usize, a: usize, b: usize) -> bool
     requires { (count % 2 ≡ 0) × (count ≤ 128) }
     ensures { result ≡ true → Among pairs.now count a b }
 {
-    let mut i = 0;
-    while i < count {
-        if pairs[i] == a && pairs[i + 1] == b {
+    for k in 0..count / 2 {
+        if pairs[2 * k] == a && pairs[2 * k + 1] == b {
             return true;
         }
-        i += 2;
     }
     false
 }
@@ -113,15 +111,13 @@ fn pair_of(element: u32) -> Pair
     requires { valid_mask element ≡ true }
     ensures { TwoOf element result.low result.high }
 {
-    let mut p = 0;
-    while p < 12 {
+    for p in 0..12 {
         if sweep::has(element, p) && sweep::has(element, 24 - p) {
             return Pair {
                 low: p,
                 high: 24 - p,
             };
         }
-        p += 1;
     }
     ends(element)
 }
@@ -145,14 +141,14 @@ fn ends(element: u32) -> Pair
 }
 
 // Where the only element holds, or else two positions of some element: wherever an element holds.
-pub(crate) fn candidates(elements: &[u32], parts: &[usize], size: usize, map: &[u8], out: &mut [u8])
-    requires { Parts elements.now parts.now × (size + farthest ≤ length map.now) × (size ≤ length out.old) }
-    ensures { (j s : ℕ) → j < size → s < 8 → held_within elements.now map.now j s ≡ true → bit (get_or out.new j 0) s ≡ true }
+pub(crate) fn candidates(masks: &Masks<'_>, size: usize, map: &[u8], out: &mut [u8])
+    requires { (size + farthest ≤ length map.now) × (size ≤ length out.old) }
+    ensures { (j s : ℕ) → j < size → s < 8 → held_within masks.now.elements.now map.now j s ≡ true → bit (get_or out.new j 0) s ≡ true }
 {
-    if elements.len() == 1 {
-        sweep::erode(parts, 0, size, map, out);
+    if masks.elements.len() == 1 {
+        sweep::erode(masks.parts, 0, size, map, out);
     } else {
-        hold(parts, size, map, out);
+        hold(masks.parts, size, map, out);
     }
 }
 
@@ -162,24 +158,20 @@ fn hold(pairs: &[usize], size: usize, source: &[u8], out: &mut [u8])
     ensures { Joined pairs.now (length pairs.now) size source.now out.new }
 {
     plane::fill(out, 0, size, 0);
-    let mut i = 0;
-    while i < pairs.len() {
-        let a = pairs[i];
-        let b = pairs[i + 1];
-        let c = pairs[i + 2];
-        let d = pairs[i + 3];
-        add_pairs(source, a, b, c, d, out, size);
-        i += 4;
+    let (fours, _) = pairs.as_chunks::<4>();
+    for four in fours {
+        sweep::sweep::<Paired>(source, *four, out, 0, size);
     }
 }
 
 // Adds where one pair of shifts holds, or the other.
-fn add_pairs(source: &[u8], a: usize, b: usize, c: usize, d: usize, out: &mut [u8], count: usize)
-    requires { Reach source.now a b c d count × (count ≤ length out.old) }
-    ensures { Swept (pairs_of source.now a b c d out.old) out.old out.new 0 count }
-{
-    for k in 0..count {
-        out[k] = out[k] | ((source[a + k] & source[b + k]) | (source[c + k] & source[d + k]));
+struct Paired;
+
+impl Weave for Paired {
+    ghost woven = { paired };
+
+    fn weave(own: u8, a: u8, b: u8, c: u8, d: u8) -> u8 {
+        own | ((a & b) | (c & d))
     }
 }
 

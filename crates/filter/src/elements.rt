@@ -28,12 +28,10 @@ fn some_within(elements: &[u32], mask: u32) -> bool
     ensures { result ≡ any (λ e. eqb (bit_and e mask) e) elements.now }
 {
     let mut seen: u8 = 0;
-    let mut i = 0;
-    while i < elements.len() {
-        if elements[i] & mask == elements[i] {
+    for e in elements {
+        if *e & mask == *e {
             seen = 1;
         }
-        i += 1;
     }
     seen == 1
 }
@@ -56,17 +54,12 @@ fn row_mask(row: [u8; 5], value: u8) -> u64
     requires { value < 2 }
     ensures { (result ≡ from_bits (tab (λ x. one (bit (get_or row x 0) value)) 5)) × (result < 32) }
 {
-    let five = wide(row[0])
-        + 256 * wide(row[1])
-        + 65536 * wide(row[2])
-        + 16777216 * wide(row[3])
-        + 4294967296 * wide(row[4]);
+    let [a, b, c, d, e] = row;
+    let five = u64::from(a)
+        + 256 * u64::from(b)
+        + 65536 * u64::from(c)
+        + 16777216 * u64::from(d)
+        + 4294967296 * u64::from(e);
     let bits = (five >> value) & EACH_BYTE;
     ((bits * TOGETHER) >> 28) % 32
-}
-
-pub(crate) fn wide(x: u8) -> u64
-    ensures { (result ≡ x) × (result < 256) }
-{
-    x as u64
 }

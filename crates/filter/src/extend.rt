@@ -1,5 +1,5 @@
 // The edge rule in the opening map: places outside the image have what the nearest place inside has.
-ghost use Rattle.std.specs.Prelude.{Bool, ◌&&◌, ◌⊎◌, ◌≡◌, ℕ, ◌+◌, ◌-◌, ◌*◌, ◌≤◌, ◌<◌, min, max, eqb, length, get_or};
+ghost use Rattle.std.specs.Prelude.{Bool, ◌&&◌, ◌≡◌, ℕ, ◌+◌, ◌-◌, ◌*◌, ◌≤◌, ◌<◌, min, max, eqb, length, get_or};
 ghost use Rattle.filter.specs.Code.Extend.{Joined, Widening, Widenings, RowsBy};
 ghost use Rattle.filter.specs.Code.Opening.{MapRows, Mapped};
 ghost use Rattle.filter.specs.Code.Plane.{band, step};
@@ -8,16 +8,17 @@ ghost use Rattle.seq.specs.Bits.{bit};
 ghost use Rattle.seq.specs.Loops.{Swept};
 
 use crate::plane::{BAND, HALO, STEP};
+use crate::sides::Sides;
 
 // How far a window reaches from its centre.
 const REACH: usize = 2;
 
-pub(crate) fn extend(map: &mut [u8], width: usize, height: usize, top: usize, rows: usize)
-    requires { (1 ≤ width) × (width ≤ max_side) × (height ≤ max_side) × (1 ≤ rows) × (top + rows ≤ height) × (step * (rows + 4) ≤ length map.old) }
-    ensures { (O : ℕ → ℕ → ℕ → Bool) → MapRows O width height top rows map.old → Mapped O width height top rows map.new }
+pub(crate) fn extend(map: &mut [u8], sides: Sides, top: usize, rows: usize)
+    requires { (1 ≤ rows) × (top + rows ≤ sides.height) × (step * (rows + 4) ≤ length map.old) }
+    ensures { (O : ℕ → ℕ → ℕ → Bool) → MapRows O sides.width sides.height top rows map.old → Mapped O sides.width sides.height top rows map.new }
 {
-    extend_rows(map, width, rows);
-    extend_down(map, height, top, rows);
+    extend_rows(map, sides.width, rows);
+    extend_down(map, sides.height, top, rows);
     extend_up(map, top);
 }
 
@@ -28,12 +29,8 @@ fn extend_rows(map: &mut [u8], width: usize, rows: usize)
 {
     let lane = (width - 1) / BAND;
     let col = (width - 1) % BAND;
-    let mut r = 0;
-    let mut to = 0;
-    while r < rows + 4 {
-        extend_row(map, to, lane, col);
-        to += STEP;
-        r += 1;
+    for r in 0..rows + 4 {
+        extend_row(map, r * STEP, lane, col);
     }
 }
 
@@ -75,10 +72,8 @@ fn extend_down(map: &mut [u8], height: usize, top: usize, rows: usize)
     ensures { RowsBy (λ i. min i (height + 1 - top)) map.old map.new (max (height + 2 - top) (rows + 4)) }
 {
     let last = height + 1 - top; // the map's row of the image's last
-    let mut r = last + 1;
-    while r < rows + 4 {
+    for r in last + 1..rows + 4 {
         copy_row(map, last * STEP, r * STEP);
-        r += 1;
     }
 }
 
@@ -87,22 +82,16 @@ fn extend_up(map: &mut [u8], top: usize)
     requires { step * 3 ≤ length map.old }
     ensures { RowsBy (λ i. 2 - top) map.old map.new (2 - top) }
 {
-    if top < REACH {
-        let from = (REACH - top) * STEP;
-        let mut r = 0;
-        while r < REACH - top {
-            copy_row(map, from, r * STEP);
-            r += 1;
-        }
+    let first = REACH.saturating_sub(top); // the map's row of the image's first
+    for r in 0..first {
+        copy_row(map, first * STEP, r * STEP);
     }
 }
 
 // A row in place of another one.
 fn copy_row(map: &mut [u8], from: usize, to: usize)
-    requires { (from + step ≤ length map.old) × (to + step ≤ length map.old) × ((from + step ≤ to) ⊎ (to + step ≤ from)) }
+    requires { (from + step ≤ length map.old) × (to + step ≤ length map.old) }
     ensures { Swept (λ j. get_or map.old (from + (j - to)) 0) map.old map.new to (to + step) }
 {
-    for k in 0..STEP {
-        map[to + k] = map[from + k];
-    }
+    map.copy_within(from..from + STEP, to);
 }

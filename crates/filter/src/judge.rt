@@ -1,24 +1,23 @@
 // Which pixels change: the window of each candidate is gathered, and the element test judges it (01, One pass).
-ghost use Rattle.std.specs.Prelude.{true, ◌&&◌, ◌≡◌, ℕ, ◌+◌, ◌-◌, ◌*◌, ◌/◌, ◌%◌, ◌^◌, ◌≤◌, ◌<◌, length, get_or};
+ghost use Rattle.std.specs.Prelude.{◌&&◌, ◌≡◌, ℕ, ◌+◌, ◌-◌, ◌*◌, ◌/◌, ◌%◌, ◌^◌, ◌≤◌, ◌<◌, length, get_or};
 ghost use Rattle.filter.specs.Code.Elements.{code_of, seen};
 ghost use Rattle.filter.specs.Code.Judge.{Bytes, Confirmed, JudgedRows};
 ghost use Rattle.filter.specs.Code.Opening.{farthest, held_within};
 ghost use Rattle.filter.specs.Code.Plane.{step, rim, band};
 ghost use Rattle.seq.specs.Bits.{bit};
-ghost use Rattle.seq.specs.Lists.{all, one};
 ghost use Rattle.seq.specs.Loops.{Swept};
 ghost use Rattle.seq.specs.Tab.{tab};
-ghost use Rattle.table.specs.Mask.{valid_mask};
 
+use crate::masks::Masks;
 use crate::plane::{BAND, HALO, RIM, STEP};
-use crate::{candidate, elements};
+use crate::{candidate, elements, plane};
 
 // Where the window of a band's first column begins.
 const FIRST: usize = HALO - 2;
 
 // Judges the candidates of a block, and marks the rows that have some.
 pub(crate) fn confirm_rows(
-    elements: &[u32],
+    masks: &Masks<'_>,
     hit: &[u8],
     map: &[u8],
     plane: &[u8],
@@ -27,13 +26,12 @@ pub(crate) fn confirm_rows(
     flips: &mut [u8],
     changed: &mut [u8],
 )
-    requires { (all valid_mask elements.now ≡ true) × (top + rows ≤ 4096) × (step * rows ≤ length hit.now) × (step * (rows + 4) ≤ length map.now)
+    requires { (top + rows ≤ 4096) × (step * rows ≤ length hit.now) × (step * (rows + 4) ≤ length map.now)
         × (step * (top + rows + 2 * rim) ≤ length plane.now) × (band * (top + rows) ≤ length flips.old) × (rim + top + rows ≤ length changed.old) }
-    ensures { JudgedRows elements.now hit.now map.now plane.now top rows
+    ensures { JudgedRows masks.now.elements.now hit.now map.now plane.now top rows
         flips.old flips.new changed.old changed.new }
 {
-    let mut r = 0;
-    while r < rows {
+    for r in 0..rows {
         let row = top + r;
         let from = STEP * r + FIRST;
         let some = candidate::narrow(
@@ -46,47 +44,40 @@ pub(crate) fn confirm_rows(
             BAND * row,
         );
         if some {
-            confirm_row(elements, map, from, flips, BAND * row);
+            confirm_row(masks, map, from, flips, BAND * row);
         }
-        changed[RIM + row] = mark(some);
-        r += 1;
+        changed[RIM + row] = u8::from(some);
     }
 }
 
-fn mark(b: bool) -> u8
-    ensures { result ≡ one b }
-{
-    if b { 1 } else { 0 }
-}
-
 // Judges the candidates of a row, eight bytes at a time.
-fn confirm_row(elements: &[u32], map: &[u8], from: usize, flips: &mut [u8], at: usize)
-    requires { (all valid_mask elements.now ≡ true) × (from + band + farthest + 3 ≤ length map.now) × (at + band ≤ length flips.old) }
-    ensures { Confirmed elements.now map.now from flips.old flips.new at band }
+fn confirm_row(masks: &Masks<'_>, map: &[u8], from: usize, flips: &mut [u8], at: usize)
+    requires { (from + band + farthest + 3 ≤ length map.now) × (at + band ≤ length flips.old) }
+    ensures { Confirmed masks.now.elements.now map.now from flips.old flips.new at band }
 {
-    let mut k = 0;
-    while k < BAND {
+    for i in 0..BAND / 8 {
+        let k = 8 * i;
         let turned = word(flips, at + k);
         if turned != 0 {
-            put(confirm(elements, map, from + k, turned), flips, at + k);
+            put(confirm(masks, map, from + k, turned), flips, at + k);
         }
-        k += 8;
     }
 }
 
 // Judges each candidate of a word of eight bytes, and keeps those that change.
-fn confirm(elements: &[u32], map: &[u8], from: usize, turned: u64) -> u64
-    requires { (all valid_mask elements.now ≡ true) × (from + farthest + 11 ≤ length map.now) }
-    ensures { (s : ℕ) → s < 64 → bit result s ≡ (bit turned s && held_within elements.now map.now (from + s / 8) (s % 8)) }
+fn confirm(masks: &Masks<'_>, map: &[u8], from: usize, turned: u64) -> u64
+    requires { from + farthest + 11 ≤ length map.now }
+    ensures { (s : ℕ) → s < 64 → bit result s ≡ (bit turned s && held_within masks.now.elements.now map.now (from + s / 8) (s % 8)) }
 {
     let mut left = turned;
     let mut kept = turned;
+    // kept: no index is counted, and the library has no iterator over the bits of a word
     while left != 0 {
         let s = u64::trailing_zeros(left) as usize;
         let place = 1u64 << s;
         left = left - place;
         let win = gather(map, from + s / 8, s % 8 / 2);
-        if !elements::some_matches(elements, win, (s % 2) as u8) {
+        if !elements::some_matches(masks.elements, win, (s % 2) as u8) {
             kept = kept - place;
         }
     }
@@ -134,18 +125,16 @@ fn word(b: &[u8], at: usize) -> u64
     requires { at + 8 ≤ length b.now }
     ensures { Bytes 8 b.now at result }
 {
-    four(b, at) + 4294967296 * four(b, at + 4)
-}
-
-// Four bytes as a number.
-fn four(b: &[u8], at: usize) -> u64
-    requires { at + 4 ≤ length b.now }
-    ensures { Bytes 4 b.now at result × (result < 4294967296) }
-{
-    elements::wide(b[at])
-        + 256 * elements::wide(b[at + 1])
-        + 65536 * elements::wide(b[at + 2])
-        + 16777216 * elements::wide(b[at + 3])
+    u64::from_le_bytes([
+        b[at],
+        b[at + 1],
+        b[at + 2],
+        b[at + 3],
+        b[at + 4],
+        b[at + 5],
+        b[at + 6],
+        b[at + 7],
+    ])
 }
 
 // A number as eight bytes, the lowest first.
@@ -153,18 +142,5 @@ fn put(x: u64, out: &mut [u8], at: usize)
     requires { at + 8 ≤ length out.old }
     ensures { Swept (λ j. x / 2 ^ (8 * (j - at)) % 256) out.old out.new at (at + 8) }
 {
-    out[at] = byte(x);
-    out[at + 1] = byte(x >> 8);
-    out[at + 2] = byte(x >> 16);
-    out[at + 3] = byte(x >> 24);
-    out[at + 4] = byte(x >> 32);
-    out[at + 5] = byte(x >> 40);
-    out[at + 6] = byte(x >> 48);
-    out[at + 7] = byte(x >> 56);
-}
-
-fn byte(x: u64) -> u8
-    ensures { result ≡ x % 256 }
-{
-    (x % 256) as u8
+    plane::copy(&x.to_le_bytes(), 0, out, at, 8);
 }

@@ -7,6 +7,7 @@ mod candidate;
 mod elements;
 mod extend;
 mod judge;
+mod masks;
 mod opening;
 mod plane;
 pub mod preview;
@@ -14,6 +15,7 @@ mod rows;
 mod run;
 mod scratch;
 mod show;
+mod sides;
 pub mod strip;
 mod sweep;
 mod tally;
@@ -23,12 +25,15 @@ mod window;
 use image::strip::PartCounts;
 use verdict::Refusal;
 
-// What one pass answers: the pixels that went from 0 to 1 and from 1 to 0.
-#[derive(Clone, Copy)]
-pub enum Filtered {
-    Counts { added: usize, removed: usize },
-    Refused(Refusal),
+// The pixels that went from 0 to 1 and from 1 to 0.
+#[derive(Clone, Copy, PartialEq, Eq)]
+pub struct Changes {
+    pub added: usize,
+    pub removed: usize,
 }
+
+// What one pass answers.
+pub type Filtered = Result<Changes, Refusal>;
 
 // What passes one after the other may do.
 #[derive(Clone, Copy)]
@@ -38,13 +43,12 @@ pub struct Budget {
     pub room: usize, // pixels that they change: a pass with which there are more is not made
 }
 
-// Why they end: nothing changes; the limit is reached; `most` or `room` would be exceeded; refused.
-#[derive(Clone, Copy)]
+// Why they end: nothing changes; the limit is reached; `most` or `room` would be exceeded.
+#[derive(Clone, Copy, PartialEq, Eq)]
 pub enum End {
     Stable,
     Limit,
     Full,
-    Refused(Refusal),
 }
 
 // The passes that changed pixels, and the pixels that went from 0 to 1 and from 1 to 0 in them.
@@ -56,7 +60,7 @@ pub struct Repeated {
     pub end: End,
 }
 
-// One pass over a strip: the pixels that went from 0 to 1 and from 1 to 0, in all and of each part, and how it ended. Where it is not made, all are 0.
+// One pass over a strip: the pixels that went from 0 to 1 and from 1 to 0, in all and of each part, and how it ended. Where there is no room for it, all are 0.
 #[derive(Clone, Copy)]
 pub struct Crossed {
     pub added: usize,

@@ -2,13 +2,13 @@
 ghost use Rattle.std.specs.Prelude.{List, [], ◌∷◌, ◌≡◌, ℕ, ◌+◌, ◌*◌, ◌≤◌, length};
 ghost use Rattle.filter.specs.Code.Opening.{OpenedBy, Mapped};
 ghost use Rattle.filter.specs.Code.Plane.{step, rim, Packed};
-ghost use Rattle.image.specs.Size.{max_side};
 ghost use Rattle.operator.specs.Image.{IsImage};
 ghost use Rattle.operator.specs.Pass.{opened};
 ghost use Rattle.table.specs.declared.Table.{Table};
 ghost use Rattle.table.specs.Record.{persistents};
 
 use crate::plane::STEP;
+use crate::sides::Sides;
 use crate::sweep::SHIFTS;
 use crate::{extend, plane, sweep};
 
@@ -18,21 +18,20 @@ const NEITHER: u8 = 0;
 pub(crate) fn open_block(
     masks: &[u32],
     plane: &[u8],
-    width: usize,
-    height: usize,
+    sides: Sides,
     top: usize,
     rows: usize,
     solid: &mut [u8],
     map: &mut [u8],
 )
-    requires { (1 ≤ width) × (width ≤ max_side) × (height ≤ max_side) × (1 ≤ rows) × (top + rows ≤ height) × (step * (height + 2 * rim) ≤ length plane.now)
+    requires { (1 ≤ rows) × (top + rows ≤ sides.height) × (step * (sides.height + 2 * rim) ≤ length plane.now)
         × (step * (rows + 8) ≤ length solid.old) × (step * (rows + 4) ≤ length map.old) }
-    ensures { (t : Table) (img : List ℕ) → persistents t ≡ masks.now → IsImage width height img → Packed width height img plane.now
-        → Mapped (opened t width height img) width height top rows map.new }
+    ensures { (t : Table) (img : List ℕ) → persistents t ≡ masks.now → IsImage sides.width sides.height img → Packed sides.width sides.height img plane.now
+        → Mapped (opened t sides.width sides.height img) sides.width sides.height top rows map.new }
 {
     plane::fill(map, 0, (rows + 4) * STEP, NEITHER);
     open_each(masks, plane, top, rows, solid, map);
-    extend::extend(map, width, height, top, rows);
+    extend::extend(map, sides, top, rows);
 }
 
 // Adds to the map what is opened by each persistent element in turn.
@@ -40,8 +39,8 @@ fn open_each(masks: &[u32], plane: &[u8], top: usize, rows: usize, solid: &mut [
     requires { (step * (top + rows + 2 * rim) ≤ length plane.now) × (step * (rows + 8) ≤ length solid.old) × (step * (rows + 4) ≤ length map.old) }
     ensures { OpenedBy masks.now plane.now top rows map.old map.new }
 {
-    for i in 0..masks.len() {
-        open_for(masks[i], plane, top, rows, solid, map);
+    for mask in masks {
+        open_for(*mask, plane, top, rows, solid, map);
     }
 }
 

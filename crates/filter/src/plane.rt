@@ -1,12 +1,13 @@
-// The image as packed codes: bytes to plane and back. specs/Code/Plane.antt has the layout.
+// The image as packed codes: bytes to plane and back. specs/Code/Plane.antt has the layout. Functions of this crate take a plane or map whole and a place in
+// it: promises (`Packed`, `Swept`) speak of its places, and a cut slice would move each of them.
 ghost use Rattle.std.specs.Prelude.{◌≡◌, ℕ, ◌+◌, ◌-◌, ◌*◌, ◌/◌, ◌%◌, ◌≤◌, ◌<◌, length, get_or};
 ghost use Rattle.filter.specs.Code.Plane.{band, halo, step, rim, quad, folded, Inside, White, Packed, Refreshed, RowPacked, RowsPacked};
 ghost use Rattle.image.specs.Size.{max_side};
 ghost use Rattle.operator.specs.Image.{IsImage};
 ghost use Rattle.seq.specs.Bits.{bit};
-ghost use Rattle.seq.specs.Lists.{one};
 ghost use Rattle.seq.specs.Loops.{Swept};
 
+use crate::sides::Sides;
 use image::size::MAX_SIDE;
 
 // Columns of a band, columns beside it, bytes of a row, rows above and below the image.
@@ -18,37 +19,33 @@ pub(crate) const STEP: usize = BAND + HALO + HALO;
 
 pub(crate) const RIM: usize = 6;
 
-pub(crate) fn pack(pixels: &[u8], width: usize, height: usize, plane: &mut [u8])
-    requires { IsImage width height pixels.now × (width ≤ max_side) × (height ≤ max_side) × (step * (height + 2 * rim) ≤ length plane.old) }
-    ensures { Packed width height pixels.now plane.new }
+pub(crate) fn pack(pixels: &[u8], sides: Sides, plane: &mut [u8])
+    requires { IsImage sides.width sides.height pixels.now × (step * (sides.height + 2 * rim) ≤ length plane.old) }
+    ensures { Packed sides.width sides.height pixels.now plane.new }
 {
     fill(plane, 0, RIM * STEP, 0);
-    pack_rows(pixels, width, height, plane);
-    fill(plane, (RIM + height) * STEP, RIM * STEP, 0);
+    pack_rows(pixels, sides, plane);
+    fill(plane, (RIM + sides.height) * STEP, RIM * STEP, 0);
 }
 
 pub(crate) fn fill(out: &mut [u8], from: usize, count: usize, value: u8)
     requires { from + count ≤ length out.old }
     ensures { Swept (λ j. value) out.old out.new from (from + count) }
 {
-    for k in 0..count {
-        out[from + k] = value;
-    }
+    out[from..from + count].fill(value);
 }
 
-// Row by row; the places of a row's first pixel and of its first byte are carried along.
-fn pack_rows(pixels: &[u8], width: usize, height: usize, plane: &mut [u8])
-    requires { IsImage width height pixels.now × (width ≤ max_side) × (height ≤ max_side) × (step * (height + 2 * rim) ≤ length plane.old) }
-    ensures { RowsPacked width pixels.now height plane.old plane.new }
+// Row by row.
+fn pack_rows(pixels: &[u8], sides: Sides, plane: &mut [u8])
+    requires { IsImage sides.width sides.height pixels.now × (step * (sides.height + 2 * rim) ≤ length plane.old) }
+    ensures { RowsPacked sides.width pixels.now sides.height plane.old plane.new }
 {
+    let Sides { width, height } = sides;
     let inside = inside(width);
     let mut line = [0u8; MAX_SIDE];
-    let mut from = 0;
-    let mut to = RIM * STEP;
     for row in 0..height {
-        pack_row(pixels, from, width, &inside, &mut line, plane, to);
-        from += width;
-        to += STEP;
+        let to = (RIM + row) * STEP;
+        pack_row(pixels, row * width, width, &inside, &mut line, plane, to);
     }
 }
 
@@ -79,9 +76,7 @@ pub(crate) fn copy(source: &[u8], from: usize, out: &mut [u8], to: usize, count:
     requires { (from + count ≤ length source.now) × (to + count ≤ length out.old) }
     ensures { Swept (λ j. get_or source.now (from + (j - to)) 0) out.old out.new to (to + count) }
 {
-    for k in 0..count {
-        out[to + k] = source[from + k];
-    }
+    out[to..to + count].copy_from_slice(&source[from..from + count]);
 }
 
 // The code 1 in each band whose column lies inside.
@@ -90,18 +85,12 @@ fn inside(width: usize) -> [u8; BAND]
 {
     let mut row = [0u8; BAND];
     for k in 0..BAND {
-        row[k] = one(k < width)
-            + 4 * one(64 + k < width)
-            + 16 * one(128 + k < width)
-            + 64 * one(192 + k < width);
+        row[k] = u8::from(k < width)
+            + 4 * u8::from(64 + k < width)
+            + 16 * u8::from(128 + k < width)
+            + 64 * u8::from(192 + k < width);
     }
     row
-}
-
-fn one(b: bool) -> u8
-    ensures { (result ≡ one b) × (result ≤ 1) }
-{
-    if b { 1 } else { 0 }
 }
 
 // 256 pixels as 64 bytes of codes.

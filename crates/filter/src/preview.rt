@@ -10,7 +10,8 @@ ghost use Rattle.seq.specs.Tab.{tab};
 ghost use Rattle.verdict.specs.Writer.{over};
 
 use crate::window;
-use verdict::Verdict;
+use image::size::Size;
+use verdict::{Rule, Verdict};
 
 // One answer for each pattern of nine pixels: 1 exactly when five or more bits are 1.
 const ANSWERS: [u8; 512] =
@@ -36,56 +37,41 @@ pub fn preview(width: usize, height: usize, pixels: &[u8], area: &mut [u8]) -> V
     ensures { (result ≡ preview_verdict width height pixels.now (length area.old))
         × (area.new ≡ preview_area width height pixels.now area.old) }
 {
-    let checked = image::check_pixels(width, height, pixels);
-    if let Verdict::Refused(refusal) = checked {
-        return Verdict::Refused(refusal);
-    }
+    image::check_pixels(width, height, pixels)?;
     if area.len() < width * height {
-        return verdict::refused(verdict::AREA_SHORT, 0);
+        return verdict::refused(Rule::AreaShort, 0);
     }
-    fill(width, height, pixels, area);
-    Verdict::Accepted
+    fill(Size { width, height }, pixels, area);
+    Ok(())
 }
 
-fn fill(width: usize, height: usize, pixels: &[u8], area: &mut [u8])
-    requires { IsImage width height pixels.now × (width * height ≤ length area.old) }
-    ensures { area.new ≡ over (preview width height pixels.now) area.old }
+fn fill(size: Size, pixels: &[u8], area: &mut [u8])
+    requires { IsImage size.width size.height pixels.now × (size.width * size.height ≤ length area.old) }
+    ensures { area.new ≡ over (preview size.width size.height pixels.now) area.old }
 {
-    let mut row = 0;
-    while row < height {
-        fill_row(width, height, pixels, row, area);
-        row += 1;
+    for row in 0..size.height {
+        fill_row(size, pixels, row, area);
     }
 }
 
-fn fill_row(width: usize, height: usize, pixels: &[u8], row: usize, area: &mut [u8])
-    requires { IsImage width height pixels.now × (row < height) × (row * width + width ≤ length area.old) }
+fn fill_row(size: Size, pixels: &[u8], row: usize, area: &mut [u8])
+    requires { IsImage size.width size.height pixels.now × (row < size.height) × (row * size.width + size.width ≤ length area.old) }
     ensures { area.new
-        ≡ sets area.old (row * width) (tab (λ c. five_or_more (pattern (window width height pixels.now row c))) width) }
+        ≡ sets area.old (row * size.width) (tab (λ c. five_or_more (pattern (window size.width size.height pixels.now row c))) size.width) }
 {
-    let start = row * width;
-    let mut col = 0;
-    while col < width {
-        store(pixels, width, height, start + col, row, col, area);
-        col += 1;
+    let start = row * size.width;
+    for col in 0..size.width {
+        store(pixels, size, start + col, row, col, area);
     }
 }
 
 // The answer at an index goes to the area. Row and column are those of the index (02, T-03).
-fn store(
-    pixels: &[u8],
-    width: usize,
-    height: usize,
-    index: usize,
-    row: usize,
-    col: usize,
-    area: &mut [u8],
-)
-    requires { IsImage width height pixels.now × Cell width height index row col × (index < length area.old) }
+fn store(pixels: &[u8], size: Size, index: usize, row: usize, col: usize, area: &mut [u8])
+    requires { IsImage size.width size.height pixels.now × Cell size.width size.height index row col × (index < length area.old) }
     ensures { area.new
-        ≡ set area.old index (five_or_more (pattern (window width height pixels.now (index / width) (index % width)))) }
+        ≡ set area.old index (five_or_more (pattern (window size.width size.height pixels.now (index / size.width) (index % size.width)))) }
 {
-    area[index] = answer(window::gather(pixels, width, height, row, col));
+    area[index] = answer(window::gather(pixels, size, row, col));
 }
 
 // The median of the nine pixels in the middle of the window.
@@ -109,11 +95,5 @@ fn answers() -> [u8; 512]
 fn three(row: [u8; 5]) -> usize
     ensures { (result ≡ from_bits (get_or row 1 0 ∷ get_or row 2 0 ∷ get_or row 3 0 ∷ [])) × (result ≤ 1785) }
 {
-    wide(row[1]) + 2 * wide(row[2]) + 4 * wide(row[3])
-}
-
-fn wide(value: u8) -> usize
-    ensures { (result ≡ value) × (result ≤ 255) }
-{
-    value as usize
+    usize::from(row[1]) + 2 * usize::from(row[2]) + 4 * usize::from(row[3])
 }

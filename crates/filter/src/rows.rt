@@ -17,11 +17,12 @@ pub(crate) fn next_marked(marks: &[u8], height: usize, top: usize) -> usize
     requires { (top ≤ height) × (height ≤ length marks.now) }
     ensures { NextMarked marks.now height top result }
 {
-    let mut row = top;
-    while row < height && marks[row] == 0 {
-        row += 1;
+    for row in top..height {
+        if marks[row] != 0 {
+            return row;
+        }
     }
-    row
+    height
 }
 
 // The end of the rows with marks that begin at `top`, after a block at the latest.
@@ -29,16 +30,13 @@ pub(crate) fn next_unmarked(marks: &[u8], height: usize, top: usize) -> usize
     requires { (top < height) × (height ≤ length marks.now) × Marked marks.now top }
     ensures { MarkedRun marks.now height top result }
 {
-    let end = if BLOCK < height - top {
-        top + BLOCK
-    } else {
-        height
-    };
-    let mut row = top + 1;
-    while row < end && marks[row] != 0 {
-        row += 1;
+    let end = height.min(top + BLOCK);
+    for row in top + 1..end {
+        if marks[row] == 0 {
+            return row;
+        }
     }
-    row
+    end
 }
 
 // A mark at each row that has one of the marks within reach. Six marks stand before the first row's own and six behind the last row's.

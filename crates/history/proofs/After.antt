@@ -4,6 +4,7 @@
 --     stage_empty, stage_settled       stage 0 and 2
 --     after_related                    all of it
 -- Assumes nothing.
+use Rattle.std.specs.Prelude.{Ok}
 use mathlib.Core.Bool.{Bool, true, false}
 use mathlib.Core.Logic.{◌↔◌}
 use mathlib.Core.Path.{◌≡◌, refl, sym, ap, ◌∙◌, subst}
@@ -31,7 +32,6 @@ use Rattle.image.specs.Strip.{max_parts, strip_of}
 use Rattle.operator.specs.Parts.{added_in, removed_in}
 use Rattle.seq.proofs.Tab.{get_d_tab}
 use Rattle.seq.specs.Lists.{sum_of}
-use Rattle.verdict.specs.declared.Verdict.TheVariants.{Accepted}
 
 -- what part i gained and lost, over all steps
 abbrev steps_added : Entry → ℕ → ℕ
@@ -102,7 +102,7 @@ run_from w r e q =
     subst (λ (H : History). RunAsPasses (record { state = w.state; history = H; tally = w.tally }) e) (sym q)
     (run_as_passes (held w r e q))
 
-channel_from : (w : Course) → Related w → (e : Entry) → w.history ≡ holds e → (c : Quota) (i : ℕ) → channel_rule c i ≡ Accepted → ChannelAsPasses w e c i
+channel_from : (w : Course) → Related w → (e : Entry) → w.history ≡ holds e → (c : Quota) (i : ℕ) → channel_rule c i ≡ Ok tt → ChannelAsPasses w e c i
 channel_from w r e q c i k =
     subst (λ (H : History). ChannelAsPasses (record { state = w.state; history = H; tally = w.tally }) e c i) (sym q)
     (channel_as_passes c i k (held w r e q))

@@ -8,6 +8,7 @@
 --     channel_as_passes              the claim about a list
 --     empty_unmade                   on an empty job
 -- Assumes nothing.
+use Rattle.std.specs.Prelude.{Ok, Err}
 use mathlib.Core.Bool.{Bool, true, false, cond}
 use mathlib.Core.List.{[], ◌∷◌}
 use mathlib.Core.Logic.{⊎_elim}
@@ -18,10 +19,10 @@ use native.Mathlib.Omega.{arith}
 use borrow.Author.Tests.{lt-ltb, le-ltb, ltb-true, ltb-false}
 use lib.Dec.{ltb}
 use lib.ListN.{replicate}
+use Rattle.history.specs.Answers.{Passed}
+use Rattle.history.specs.declared.Effect.TheVariants.{Changed, Stable}
 use Rattle.operator.specs.Image.{differs}
 use Rattle.history.specs.declared.Job.{Job}
-use Rattle.history.specs.declared.Passed.{Passed}
-use Rattle.history.specs.declared.Passed.TheVariants as passing
 use Rattle.history.specs.declared.Quota.{Quota}
 use Rattle.history.specs.Answered.{rest_if, rest_as}
 use Rattle.history.specs.Call.{pass, channel_pass, channel_run, state_of}
@@ -33,6 +34,7 @@ use Rattle.history.specs.Lists.{tallied, tally_as, step, play}
 use Rattle.history.specs.Pass.{Outcome, pass_of}
 use Rattle.history.specs.Quota.{channel_rule, available, charged, charged_for}
 use Rattle.history.specs.State.{State, empty_job, pixels}
+use Rattle.verdict.specs.declared.Rule.TheVariants as why
 use Rattle.history.proofs.ChannelPasses as way
 use Rattle.history.proofs.ChannelPasses.{unmade, channel_barred, channel_unready, ChannelWay, channel_way, continues_on}
 use Rattle.history.proofs.ChannelRuns.{run_once, run_next, run_ended}
@@ -44,19 +46,17 @@ use Rattle.history.proofs.Run.{course, settled_stays, Begins, stops, goes, begin
 use Rattle.history.proofs.Sound.{ready_held, ready_empty}
 use Rattle.seq.proofs.Lists.{clash, either}
 use Rattle.verdict.specs.declared.Refusal.{Refusal}
-use Rattle.verdict.specs.declared.Verdict.{Verdict}
-use Rattle.verdict.specs.declared.Verdict.TheVariants as verdict
-use Rattle.verdict.specs.Rules.{refusal, refuse_if, judge}
+use Rattle.verdict.specs.Rules.{refusal, refuse_if, judge, Verdict}
 use Rattle.verdict.proofs.Rules.{refused_accepted}
 
 -- at rest nothing is charged; else the channel has no pass left, or the pass is charged
 pub data Metering (q : Quota) (i : ℕ) (s : State) (e : Entry) : Type 0 where
-  rests : e.settled ≡ true → channel_pass_of q i s ≡ record { answer = passing.Stable; state = s; quota = q } → Metering q i s e
-  spent_out_lem : e.settled ≡ false → available q i ≡ 0 → channel_pass_of q i s ≡ unmade (refusal 24 i) s q → Metering q i s e
+  rests : e.settled ≡ true → channel_pass_of q i s ≡ record { answer = (Ok Stable); state = s; quota = q } → Metering q i s e
+  spent_out_lem : e.settled ≡ false → available q i ≡ 0 → channel_pass_of q i s ≡ unmade (refusal why.AllowanceSpent i) s q → Metering q i s e
   pays : e.settled ≡ false → 0 < available q i
       → channel_pass_of q i s ≡ record { answer = (pass_of s).answer; state = (pass_of s).state; quota = charged q i } → Metering q i s e
 
-module _ (q : Quota) (i : ℕ) (rule : channel_rule q i ≡ verdict.Accepted) {s : State} {e : Entry} {n : ℕ} (r : Held s e n) where
+module _ (q : Quota) (i : ℕ) (rule : channel_rule q i ≡ Ok tt) {s : State} {e : Entry} {n : ℕ} (r : Held s e n) where
   pub metering : Metering q i s e
   metering = by (channel_way q i s)
     where
@@ -98,7 +98,7 @@ outcome x y z = rw (x, y, z)
 enough : (q : Quota) (i n : ℕ) (b : Bool) → n ≤ available q i → rest_if b ≡ rest_as (spent_rule q i n) b
 enough q i n b l = rw (le-ltb (available q i) n l)
 
-too_few : (q : Quota) (i n : ℕ) (b : Bool) → available q i < n → passing.Refused (refusal 24 i) ≡ rest_as (spent_rule q i n) b
+too_few : (q : Quota) (i n : ℕ) (b : Bool) → available q i < n → Err (refusal why.AllowanceSpent i) ≡ rest_as (spent_rule q i n) b
 too_few q i n b l = rw (lt-ltb (available q i) n l)
 
 -- a run makes at least one pass
@@ -110,8 +110,8 @@ some_pass k e = pick e.settled (differs e.last (next_of e))
     pick false true = omega arith
     pick false false = omega arith
 
-module _ (k : ℕ) (q : Quota) (i : ℕ) (rule : channel_rule q i ≡ verdict.Accepted) {s : State} {e : Entry} {n : ℕ} (r : Held s e n) where
-  told_rests : e.settled ≡ true → ◌≡◌ {A = ChannelOutcome} (record { answer = passing.Stable; state = s; quota = q }) (told k q i s e)
+module _ (k : ℕ) (q : Quota) (i : ℕ) (rule : channel_rule q i ≡ Ok tt) {s : State} {e : Entry} {n : ℕ} (r : Held s e n) where
+  told_rests : e.settled ≡ true → ◌≡◌ {A = ChannelOutcome} (record { answer = (Ok Stable); state = s; quota = q }) (told k q i s e)
   told_rests u =
       let none : needed (suc k) e ≡ 0 = cond_true 0 (passes_of_run (suc k) e) u in
       let spent : spends (suc k) q i e ≡ 0 = ap (min (available q i)) none ∙ omega arith in
@@ -128,7 +128,7 @@ module _ (k : ℕ) (q : Quota) (i : ℕ) (rule : channel_rule q i ≡ verdict.Ac
     makes : made (suc k) q i e ≡ spends (suc k) q i e
     makes = cond_false 1 (spends (suc k) q i e) u
 
-    told_spent : available q i ≡ 0 → unmade (refusal 24 i) s q ≡ told k q i s e
+    told_spent : available q i ≡ 0 → unmade (refusal why.AllowanceSpent i) s q ≡ told k q i s e
     told_spent z =
         let none : spends (suc k) q i e ≡ 0 = ap (λ (a : ℕ). min a (needed (suc k) e)) z ∙ omega arith in
         outcome
@@ -173,7 +173,7 @@ module _ (k : ℕ) (q : Quota) (i : ℕ) (s : State) (e : Entry) (u : e.settled 
   told_goes : told k (charged q i) i (pass_of s).state (passed e) ≡ told (suc k) q i s e
   told_goes =
       outcome
-      (ap (λ (t : Bool). rest_as (refuse_if t 24 i) (passed_for (suc k) (passed e)).settled)
+      (ap (λ (t : Bool). rest_as (refuse_if t why.AllowanceSpent i) (passed_for (suc k) (passed e)).settled)
       (ap (λ (a : ℕ). ltb a (needed (suc k) (passed e))) left ∙ ltb_suc m (needed (suc k) (passed e)) ∙ sym (ap₂ ltb z all)))
       (ap (λ (j : ℕ). after_passes j (pass_of s).state) (cond_false 1 (spends (suc k) (charged q i) i (passed e)) v)
       ∙ ap (λ (j : ℕ). after_passes j s) (spends_goes ∙ sym (cond_false 1 (spends (suc (suc k)) q i e) u)))
@@ -184,7 +184,7 @@ unfolding joined
 joined_unsettled e = refl
 
 -- by induction: a first pass that changes pixels leaves the claim for the job after it
-pub channel_told : (k : ℕ) (q : Quota) (i : ℕ) → channel_rule q i ≡ verdict.Accepted → {s : State} {e : Entry} {n : ℕ} → Held s e n
+pub channel_told : (k : ℕ) (q : Quota) (i : ℕ) → channel_rule q i ≡ Ok tt → {s : State} {e : Entry} {n : ℕ} → Held s e n
     → channel_run_for k q i s ≡ told k q i s e
 channel_told zero q i rule {s} {e} {n} r = run_once q i s ∙ by (metering q i rule r)
   where
@@ -204,14 +204,14 @@ channel_told (suc k) q i rule {s} {e} {n} r =
     by (rests u a) b below = run_ended q i s (suc k) a (λ x. let y : ◌≡◌ {A = ℕ} 0 1 = cc in omega arith) ∙ told_rests (suc k) q i rule r u
     by (spent_out_lem u z a) b below = run_ended q i s (suc k) a (λ x. let y : ◌≡◌ {A = ℕ} 0 1 = cc in omega arith) ∙ told_spent (suc k) q i rule r u z
     by (pays u l a) (stops b v p) below =
-        run_ended q i s (suc k) a (λ x. let y : passing.Stable ≡ passing.Changed = sym b ∙ x in let w : ◌≡◌ {A = ℕ} 0 1 = cc in omega arith)
+        run_ended q i s (suc k) a (λ x. let y : (Ok Stable) ≡ (Ok Changed) = sym b ∙ x in let w : ◌≡◌ {A = ℕ} 0 1 = cc in omega arith)
         ∙ told_once (suc k) q i rule r u l (p (suc k)) (ap (λ (x : Entry). x.settled) (settled_stays (suc k) (passed e) v))
     by (pays u l a) (goes b v p) below =
         run_next q i s k (continues_on q i s rule b l)
         ∙ below
         ∙ told_goes k q i s e u (available q i - 1) (omega arith) (p (suc k)) (ap (λ (x : Entry). x.settled) v ∙ joined_unsettled e)
 
-module _ (q : Quota) (i : ℕ) (rule : channel_rule q i ≡ verdict.Accepted) {s : State} {e : Entry} {n : ℕ} (r : Held s e n) where
+module _ (q : Quota) (i : ℕ) (rule : channel_rule q i ≡ Ok tt) {s : State} {e : Entry} {n : ℕ} (r : Held s e n) where
   pub pass_told : channel_pass_of q i s ≡ told 0 q i s e
   pass_told = sym (run_once q i s) ∙ channel_told 0 q i rule r
 
@@ -226,8 +226,8 @@ plays_passes (suc j) s e n = ap (play (replicate j pass)) (step_pass s e n) ∙ 
 
 -- a channel's pass is accepted and makes one, or is refused by 24 and makes none
 data OnePass (q : Quota) (i : ℕ) (e : Entry) : Type 0 where
-  one : spent_rule q i (needed 1 e) ≡ verdict.Accepted → made 1 q i e ≡ 1 → OnePass q i e
-  none : spent_rule q i (needed 1 e) ≡ verdict.Refused (refusal 24 i) → made 1 q i e ≡ 0 → OnePass q i e
+  one : spent_rule q i (needed 1 e) ≡ Ok tt → made 1 q i e ≡ 1 → OnePass q i e
+  none : spent_rule q i (needed 1 e) ≡ Err (refusal why.AllowanceSpent i) → made 1 q i e ≡ 0 → OnePass q i e
 
 -- without the mark a pass needs one
 one_needed : (e : Entry) → e.settled ≡ false → needed 1 e ≡ 1
@@ -244,8 +244,8 @@ one_pass q i e = ⊎_elim settled unsettled (either e.settled)
     settled : e.settled ≡ true → OnePass q i e
     settled u = one (rw (u, le-ltb (available q i) 0 (omega arith))) (rw u)
 
-    by_need : e.settled ≡ false → (v : Verdict) → refuse_if (ltb (available q i) 1) 24 i ≡ v → spent_rule q i (needed 1 e) ≡ v
-    by_need u v p = ap (λ (k : ℕ). refuse_if (ltb (available q i) k) 24 i) (one_needed e u) ∙ p
+    by_need : e.settled ≡ false → (v : Verdict) → refuse_if (ltb (available q i) 1) why.AllowanceSpent i ≡ v → spent_rule q i (needed 1 e) ≡ v
+    by_need u v p = ap (λ (k : ℕ). refuse_if (ltb (available q i) k) why.AllowanceSpent i) (one_needed e u) ∙ p
 
     makes : e.settled ≡ false → (k : ℕ) → min (available q i) 1 ≡ k → made 1 q i e ≡ k
     makes u k p = cond_false 1 (spends 1 q i e) u ∙ ap (min (available q i)) (one_needed e u) ∙ p
@@ -253,11 +253,11 @@ one_pass q i e = ⊎_elim settled unsettled (either e.settled)
     unsettled : e.settled ≡ false → OnePass q i e
     unsettled u =
         ⊎_elim
-        (λ t. let l = ltb-true (available q i) 1 t in none (by_need u (verdict.Refused (refusal 24 i)) (rw t)) (makes u 0 (omega arith)))
-        (λ t. let l = ltb-false (available q i) 1 t in one (by_need u verdict.Accepted (rw t)) (makes u 1 (omega arith)))
+        (λ t. let l = ltb-true (available q i) 1 t in none (by_need u (Err (refusal why.AllowanceSpent i)) (rw t)) (makes u 0 (omega arith)))
+        (λ t. let l = ltb-false (available q i) 1 t in one (by_need u (Ok tt) (rw t)) (makes u 1 (omega arith)))
         (either (ltb (available q i) 1))
 
-module _ (q : Quota) (i : ℕ) (rule : channel_rule q i ≡ verdict.Accepted) (s : State) (e : Entry) (n : ℕ) where
+module _ (q : Quota) (i : ℕ) (rule : channel_rule q i ≡ Ok tt) (s : State) (e : Entry) (n : ℕ) where
   step_channel_pass : step (channel_pass q i) (course s e n) ≡ course (channel_pass_of q i s).state (passed_for (made 1 q i e) e) (n + made 1 q i e)
   unfolding step state_of after barred_by refused_by accepted tallied
   step_channel_pass = by (one_pass q i e)
@@ -272,7 +272,7 @@ module _ (q : Quota) (i : ℕ) (rule : channel_rule q i ≡ verdict.Accepted) (s
   step_channel_run =
       ap (λ (v : Verdict). record { state = (channel_run_of q i s).state; history = after_as v (channel_run q i) (holds e); tally = tally_as v (channel_run q i) (holds e) n }) rule
 
-pub channel_as_passes : (q : Quota) (i : ℕ) → channel_rule q i ≡ verdict.Accepted → {s : State} {e : Entry} {n : ℕ} → Held s e n
+pub channel_as_passes : (q : Quota) (i : ℕ) → channel_rule q i ≡ Ok tt → {s : State} {e : Entry} {n : ℕ} → Held s e n
     → ChannelAsPasses (course s e n) e q i
 channel_as_passes q i rule {s} {e} {n} r = record {
   pass_singly =
@@ -299,12 +299,12 @@ channel_as_passes q i rule {s} {e} {n} r = record {
 
 -- on an empty job a channel's calls are refused by 25 or 16
 abbrev empty_rule : Quota → ℕ → Verdict
-empty_rule q i = judge (channel_rule q i ∷ verdict.Refused (refusal 16 0) ∷ [])
+empty_rule q i = judge (channel_rule q i ∷ Err (refusal why.NothingLoaded 0) ∷ [])
 
 module _ (q : Quota) (i : ℕ) (s : State) (x : s.job ≡ empty_job) where
-  pub empty_unmade : (r : Refusal) × (empty_rule q i ≡ verdict.Refused r) × (channel_pass_of q i s ≡ unmade r s q)
+  pub empty_unmade : (r : Refusal) × (empty_rule q i ≡ Err r) × (channel_pass_of q i s ≡ unmade r s q)
   empty_unmade = by (channel_rule q i) refl
     where
-      by : (v : Verdict) → channel_rule q i ≡ v → (r : Refusal) × (empty_rule q i ≡ verdict.Refused r) × (channel_pass_of q i s ≡ unmade r s q)
-      by verdict.Accepted e = (refusal 16 0, rw e, channel_unready q i s e (ready_empty s x))
-      by (verdict.Refused r) e = (r, rw e, channel_barred q i s e)
+      by : (v : Verdict) → channel_rule q i ≡ v → (r : Refusal) × (empty_rule q i ≡ Err r) × (channel_pass_of q i s ≡ unmade r s q)
+      by (Ok _) e = (refusal why.NothingLoaded 0, rw e, channel_unready q i s e (ready_empty s x))
+      by (Err r) e = (r, rw e, channel_barred q i s e)

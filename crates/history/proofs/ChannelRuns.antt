@@ -8,13 +8,13 @@
 --     pass_plain, unmetered   a channel's pass and run are refused by 24, or are a pass and a run
 --     pass_accepted, run_accepted     those that are not refused answer as the plain ones
 -- Assumes nothing.
+use Rattle.std.specs.Prelude.{Ok, Err}
 use mathlib.Core.Logic.{◌⊎◌, inl, inr, ⊎_elim}
 use mathlib.Core.Path.{◌≡◌, refl, sym, ap, ◌∙◌}
 use Prim.Native.Nat.{ℕ, zero, suc, ◌+◌, ◌-◌, ◌≤◌, ◌<◌}
 use native.Mathlib.Omega.{arith}
-use Rattle.history.specs.declared.Passed.TheVariants.{Changed, Refused}
+use Rattle.history.specs.declared.Effect.TheVariants.{Changed}
 use Rattle.history.specs.declared.Quota.{Quota}
-use Rattle.history.specs.Answers.{passed_verdict}
 use Rattle.history.specs.Channel.{ChannelOutcome, channel_pass_of, channel_run_for, channel_run_of}
 use Rattle.history.specs.Demand1.{after_passes, Goes, RunEnds, ChannelEnds}
 use Rattle.history.specs.Fleet.{PlainBut24, Unmetered}
@@ -22,6 +22,7 @@ use Rattle.history.specs.Pass.{Outcome, pass_of}
 use Rattle.history.specs.Quota.{channel_rule, available, charged, charged_for}
 use Rattle.history.specs.Run.{run_of}
 use Rattle.history.specs.State.{State, pixels}
+use Rattle.verdict.specs.declared.Rule.TheVariants as why
 use Rattle.history.proofs.ChannelPasses as way
 use Rattle.history.proofs.ChannelPasses.{unmade, channel_barred, ChannelWay, channel_way, Continues, continues, continues_on, stops_short}
 use Rattle.history.proofs.Passes.{pass_refused, pass_stable}
@@ -29,10 +30,9 @@ use Rattle.history.proofs.Ready.{ready_accepted}
 use Rattle.history.proofs.Quotas.{rule_charged, rule_charged_for, available_charged, available_charged_for}
 use Rattle.history.proofs.Runs.{after, after_ends, goes_next, goes_few, ends}
 use Rattle.seq.proofs.Tests.{lt_or_le}
+use Rattle.verdict.specs.Answers.{verdict_of}
 use Rattle.verdict.specs.declared.Refusal.{Refusal}
-use Rattle.verdict.specs.declared.Verdict.{Verdict}
-use Rattle.verdict.specs.declared.Verdict.TheVariants as verdict
-use Rattle.verdict.specs.Rules.{refusal}
+use Rattle.verdict.specs.Rules.{refusal, Verdict}
 use Rattle.verdict.proofs.Rules.{refused_accepted}
 
 module _ (q : Quota) (i : ℕ) (s : State) where
@@ -44,17 +44,17 @@ module _ (q : Quota) (i : ℕ) (s : State) where
   unfolding channel_run_for
   run_next n c = ap (λ (o : ChannelOutcome). after o (channel_run_for n o.quota i o.state) o.answer) c.outcome
 
-  pub run_last : (n : ℕ) → ((channel_pass_of q i s).answer ≡ Changed → ⊥) → channel_run_for n q i s ≡ channel_pass_of q i s
+  pub run_last : (n : ℕ) → ((channel_pass_of q i s).answer ≡ Ok Changed → ⊥) → channel_run_for n q i s ≡ channel_pass_of q i s
   unfolding channel_run_for
   run_last zero h = refl
   run_last (suc n) h = after_ends (channel_pass_of q i s) (channel_run_for n (channel_pass_of q i s).quota i (channel_pass_of q i s).state) (channel_pass_of q i s).answer h
 
   -- so does an outcome of another answer
-  pub run_ended : (n : ℕ) {o : ChannelOutcome} → channel_pass_of q i s ≡ o → (o.answer ≡ Changed → ⊥) → channel_run_for n q i s ≡ o
+  pub run_ended : (n : ℕ) {o : ChannelOutcome} → channel_pass_of q i s ≡ o → (o.answer ≡ Ok Changed → ⊥) → channel_run_for n q i s ≡ o
   run_ended n p h = run_last n (λ e. h (sym (ap (λ (o : ChannelOutcome). o.answer) p) ∙ e)) ∙ p
 
 -- after k passes that change pixels, with as many left to pay for them
-pub run_from : (k m : ℕ) (q : Quota) (i : ℕ) (s : State) → channel_rule q i ≡ verdict.Accepted → Goes k s → k ≤ available q i
+pub run_from : (k m : ℕ) (q : Quota) (i : ℕ) (s : State) → channel_rule q i ≡ Ok tt → Goes k s → k ≤ available q i
     → channel_run_for (k + m) q i s ≡ channel_run_for m (charged_for k q i) i (after_passes k s)
 run_from zero m q i s rule g l = ap (λ (n : ℕ). channel_run_for n q i s) (omega arith)
 run_from (suc k) m q i s rule g l =
@@ -71,14 +71,14 @@ pub record Reaches (q : Quota) (i : ℕ) (s : State) : Type 0 where
   pub goes : Goes finished s
   pub affordable : finished ≤ available q i
   pub last : channel_run_of q i s ≡ channel_pass_of (charged_for finished q i) i (after_passes finished s)
-  pub ends : (channel_run_of q i s).answer ≡ Changed → ⊥
+  pub ends : (channel_run_of q i s).answer ≡ Ok Changed → ⊥
   -- the plain run comes as far, or further and then 24 stops this one
-  pub plain : (run_of s ≡ pass_of (after_passes finished s)) ⊎ ((channel_run_of q i s).answer ≡ Refused (refusal 24 i))
+  pub plain : (run_of s ≡ pass_of (after_passes finished s)) ⊎ ((channel_run_of q i s).answer ≡ Err (refusal why.AllowanceSpent i))
 
-module _ (q : Quota) (i : ℕ) (s : State) (rule : channel_rule q i ≡ verdict.Accepted) where
+module _ (q : Quota) (i : ℕ) (s : State) (rule : channel_rule q i ≡ Ok tt) where
   -- a pass after k, which does not answer "changed"
   pub channel_at : (k : ℕ) → Goes k s → k ≤ available q i
-      → ((channel_pass_of (charged_for k q i) i (after_passes k s)).answer ≡ Changed → ⊥)
+      → ((channel_pass_of (charged_for k q i) i (after_passes k s)).answer ≡ Ok Changed → ⊥)
       → channel_run_of q i s ≡ channel_pass_of (charged_for k q i) i (after_passes k s)
   unfolding channel_run_of
   channel_at k g l h =
@@ -87,8 +87,8 @@ module _ (q : Quota) (i : ℕ) (s : State) (rule : channel_rule q i ≡ verdict.
       ∙ run_last (charged_for k q i) i (after_passes k s) (pixels s.job - k) h
 
   reached : (k : ℕ) → Goes k s → k ≤ available q i
-      → ((channel_pass_of (charged_for k q i) i (after_passes k s)).answer ≡ Changed → ⊥)
-      → (run_of s ≡ pass_of (after_passes k s)) ⊎ ((channel_pass_of (charged_for k q i) i (after_passes k s)).answer ≡ Refused (refusal 24 i)) → Reaches q i s
+      → ((channel_pass_of (charged_for k q i) i (after_passes k s)).answer ≡ Ok Changed → ⊥)
+      → (run_of s ≡ pass_of (after_passes k s)) ⊎ ((channel_pass_of (charged_for k q i) i (after_passes k s)).answer ≡ Err (refusal why.AllowanceSpent i)) → Reaches q i s
   reached k g l h p = record {
     finished = k;
     few = goes_few k s g;
@@ -127,7 +127,7 @@ module _ (q : Quota) (i : ℕ) (s : State) (rule : channel_rule q i ≡ verdict.
           stop : Continues left i here → ⊥
           stop c = omega (arith, c.some, spent)
 
-          refused : (channel_pass_of left i here).answer ≡ Refused (refusal 24 i)
+          refused : (channel_pass_of left i here).answer ≡ Err (refusal why.AllowanceSpent i)
           refused =
               ap (λ (o : ChannelOutcome). o.answer)
               (stops_short left i here (rule_charged_for (available q i) q i i ∙ rule) (x.goes (available q i) l) spent)
@@ -138,10 +138,10 @@ unfolding channel_run_of
 ends_channel q i s = by (channel_rule q i) refl
   where
     by : (v : Verdict) → channel_rule q i ≡ v → ChannelEnds q i s
-    by verdict.Accepted rule = let x = reaches q i s rule in record { finished = x.finished; few = x.few; goes = x.goes; last = x.last; ends = x.ends }
-    by (verdict.Refused r) bad = record { finished = 0; few = omega arith; goes = λ j l. absurd (omega arith); last = only; ends = λ e. stop (sym (ap (λ (o : ChannelOutcome). o.answer) only) ∙ e) }
+    by (Ok _) rule = let x = reaches q i s rule in record { finished = x.finished; few = x.few; goes = x.goes; last = x.last; ends = x.ends }
+    by (Err r) bad = record { finished = 0; few = omega arith; goes = λ j l. absurd (omega arith); last = only; ends = λ e. stop (sym (ap (λ (o : ChannelOutcome). o.answer) only) ∙ e) }
       where
-        stop : (channel_pass_of q i s).answer ≡ Changed → ⊥
+        stop : (channel_pass_of q i s).answer ≡ Ok Changed → ⊥
         stop e = refused_accepted bad (continues q i s e).rule
 
         only : channel_run_for (pixels s.job) q i s ≡ channel_pass_of q i s
@@ -154,7 +154,7 @@ module _ (q : Quota) (i : ℕ) (s : State) {r : Refusal} (p : channel_pass_of q 
   run_unmade = run_ended q i s (pixels s.job) p (λ e. let z : ◌≡◌ {A = ℕ} 0 1 = cc in omega arith)
 
 -- refused by 24, or a pass
-pub pass_plain : (q : Quota) (i : ℕ) (s : State) → channel_rule q i ≡ verdict.Accepted → PlainBut24 i (channel_pass_of q i s) (pass_of s)
+pub pass_plain : (q : Quota) (i : ℕ) (s : State) → channel_rule q i ≡ Ok tt → PlainBut24 i (channel_pass_of q i s) (pass_of s)
 pass_plain q i s rule = by (channel_way q i s)
   where
     same : {o : ChannelOutcome} → channel_pass_of q i s ≡ o → (pass_of s).answer ≡ o.answer → (pass_of s).state ≡ o.state → PlainBut24 i (channel_pass_of q i s) (pass_of s)
@@ -168,11 +168,11 @@ pass_plain q i s rule = by (channel_way q i s)
     by (way.paying ok r z l p) = same p refl refl
 
 -- a channel's call that is not refused answers as the plain one
-not_24 : (i : ℕ) (o : ChannelOutcome) (p : Outcome) → PlainBut24 i o p → passed_verdict o.answer ≡ verdict.Accepted → o.answer ≡ p.answer
-not_24 i o p (inl e) ok = refused_accepted (ap passed_verdict e) ok
+not_24 : (i : ℕ) (o : ChannelOutcome) (p : Outcome) → PlainBut24 i o p → verdict_of o.answer ≡ Ok tt → o.answer ≡ p.answer
+not_24 i o p (inl e) ok = refused_accepted (ap verdict_of e) ok
 not_24 i o p (inr e) ok = e.0
 
-pub unmetered : (q : Quota) (i : ℕ) (s : State) → channel_rule q i ≡ verdict.Accepted → Unmetered q i s
+pub unmetered : (q : Quota) (i : ℕ) (s : State) → channel_rule q i ≡ Ok tt → Unmetered q i s
 unmetered q i s rule = record { pass_plain = pass_plain q i s rule; run_plain = ⊎_elim along inl x.plain }
   where
     x : Reaches q i s
@@ -189,21 +189,21 @@ unmetered q i s rule = record { pass_plain = pass_plain q i s rule; run_plain = 
 
 -- so does a channel's pass, and a run
 module _ (q : Quota) (i : ℕ) (s : State) where
-  barred_both : {r : Refusal} → channel_rule q i ≡ verdict.Refused r → (passed_verdict (channel_pass_of q i s).answer ≡ verdict.Refused r) × (passed_verdict (channel_run_of q i s).answer ≡ verdict.Refused r)
+  barred_both : {r : Refusal} → channel_rule q i ≡ Err r → (verdict_of (channel_pass_of q i s).answer ≡ Err r) × (verdict_of (channel_run_of q i s).answer ≡ Err r)
   barred_both bad =
       let p = channel_barred q i s bad in
-      (ap (λ (o : ChannelOutcome). passed_verdict o.answer) p, ap (λ (o : ChannelOutcome). passed_verdict o.answer) (run_unmade q i s p))
+      (ap (λ (o : ChannelOutcome). verdict_of o.answer) p, ap (λ (o : ChannelOutcome). verdict_of o.answer) (run_unmade q i s p))
 
-  pub pass_accepted : passed_verdict (channel_pass_of q i s).answer ≡ verdict.Accepted → (channel_pass_of q i s).answer ≡ (pass_of s).answer
+  pub pass_accepted : verdict_of (channel_pass_of q i s).answer ≡ Ok tt → (channel_pass_of q i s).answer ≡ (pass_of s).answer
   pass_accepted ok = by (channel_rule q i) refl
     where
       by : (v : Verdict) → channel_rule q i ≡ v → (channel_pass_of q i s).answer ≡ (pass_of s).answer
-      by verdict.Accepted rule = not_24 i (channel_pass_of q i s) (pass_of s) (unmetered q i s rule).pass_plain ok
-      by (verdict.Refused r) bad = refused_accepted (barred_both bad).0 ok
+      by (Ok _) rule = not_24 i (channel_pass_of q i s) (pass_of s) (unmetered q i s rule).pass_plain ok
+      by (Err r) bad = refused_accepted (barred_both bad).0 ok
 
-  pub run_accepted : passed_verdict (channel_run_of q i s).answer ≡ verdict.Accepted → (channel_run_of q i s).answer ≡ (run_of s).answer
+  pub run_accepted : verdict_of (channel_run_of q i s).answer ≡ Ok tt → (channel_run_of q i s).answer ≡ (run_of s).answer
   run_accepted ok = by (channel_rule q i) refl
     where
       by : (v : Verdict) → channel_rule q i ≡ v → (channel_run_of q i s).answer ≡ (run_of s).answer
-      by verdict.Accepted rule = not_24 i (channel_run_of q i s) (run_of s) (unmetered q i s rule).run_plain ok
-      by (verdict.Refused r) bad = refused_accepted (barred_both bad).1 ok
+      by (Ok _) rule = not_24 i (channel_run_of q i s) (run_of s) (unmetered q i s rule).run_plain ok
+      by (Err r) bad = refused_accepted (barred_both bad).1 ok

@@ -2,6 +2,7 @@
 --     collect_empty, collect_held     the verdict is the history's
 --     collect_keeps                   the relation after it
 -- Assumes nothing.
+use Rattle.std.specs.Prelude.{Ok, Err}
 use mathlib.Core.Bool.{Bool, true, false, not}
 use mathlib.Core.List.{List}
 use mathlib.Core.Path.{◌≡◌, refl}
@@ -16,8 +17,7 @@ use Rattle.history.specs.State.{State, empty_job}
 use Rattle.history.proofs.Related.{stage_of, Held, RelatedTo}
 use Rattle.history.proofs.Sound.{sound_empty, sound_held, stage_held}
 use Rattle.image.proofs.Shapes.{of_heights}
-use Rattle.verdict.specs.declared.Verdict.{Verdict}
-use Rattle.verdict.specs.declared.Verdict.TheVariants.{Accepted, Refused}
+use Rattle.verdict.specs.Rules.{Verdict}
 
 -- stage 1 is the stage without the mark
 stage_unsettled : (b : Bool) → eqb (stage_of b) 1 ≡ not b
@@ -44,10 +44,10 @@ unfolding collect_state after barred_by accepted tallied
 collect_keeps out s empty n q = rw (collect_empty out s q) (go (refused_by (collect out) (lengths_of s) empty))
   where
     go : (v : Verdict) → RelatedTo (collect_as v s) (after_as v (collect out) empty) (tally_as v (collect out) empty n)
-    go Accepted = refl
-    go (Refused x) = q
+    go (Ok _) = refl
+    go (Err x) = q
 collect_keeps out s (holds e) n r = rw (collect_held r out) (go (refused_by (collect out) (lengths_of s) (holds e)))
   where
     go : (v : Verdict) → RelatedTo (collect_as v s) (after_as v (collect out) (holds e)) (tally_as v (collect out) (holds e) n)
-    go Accepted = refl
-    go (Refused x) = r
+    go (Ok _) = refl
+    go (Err x) = r

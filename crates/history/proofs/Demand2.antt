@@ -1,6 +1,7 @@
 -- Demand 2 holds.
 --     demand_2     the claim, on every sound record at stage 1 and on every list of calls
 -- Assumes nothing.
+use Rattle.std.specs.Prelude.{Ok}
 use mathlib.Core.Path.{◌≡◌}
 use native.Mathlib.Omega.{arith}
 use Rattle.history.specs.Call.{pass, answer_of, refusal_of}
@@ -15,9 +16,8 @@ use Rattle.history.proofs.Unsound.{sound_ready}
 use Rattle.history.proofs.View.{operated_ready, operated_held}
 use Rattle.image.proofs.RoundTrip.{image_round_trip}
 use Rattle.table.proofs.RoundTrip.{table_round_trip}
-use Rattle.verdict.specs.declared.Verdict.TheVariants.{Accepted}
 
-operated : (s : State) → (Unsound s → ⊥) → s.job.stage ≡ 1 → refusal_of (answer_of pass s) ≡ Accepted
+operated : (s : State) → (Unsound s → ⊥) → s.job.stage ≡ 1 → refusal_of (answer_of pass s) ≡ Ok tt
     → Operated s.job.table s.job.width s.job.height s
 operated s n z = operated_ready s (sound_ready s (sound s n) (λ q. omega arith)) z
 

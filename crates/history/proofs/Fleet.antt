@@ -8,6 +8,7 @@
 --     sound_moved                     so it is after every list of moves
 --     after_round, only_24, rounds    the claims
 -- Assumes nothing.
+use Rattle.std.specs.Prelude.{Ok, Err}
 use mathlib.Core.Bool.{Bool, true, false, cond}
 use mathlib.Core.List.{List, [], ◌∷◌, ◌++◌}
 use mathlib.Core.Logic.{inl, inr, ⊎_elim, ◌≢◌}
@@ -18,7 +19,6 @@ use borrow.Author.Tests.{eqb-true, eqb-false, eq-eqb, ne_eqb, le-ltb}
 use lib.Dec.{eqb}
 use lib.ListN.{get_or}
 use Rattle.history.specs.declared.Quota.{Quota}
-use Rattle.history.specs.Answers.{passed_verdict}
 use Rattle.history.specs.Call.{Call, channel_pass, channel_run, answer_of, refusal_of}
 use Rattle.history.specs.Channel.{ChannelOutcome, channel_pass_of, channel_run_of}
 use Rattle.history.specs.Demand3.{AfterList, played, lent}
@@ -38,9 +38,9 @@ use Rattle.history.proofs.Run.{few_passes}
 use Rattle.seq.proofs.Lists.{either}
 use Rattle.seq.specs.Lists.{sum_of}
 use Rattle.seq.specs.Tab.{tab}
-use Rattle.verdict.specs.declared.Verdict.{Verdict}
-use Rattle.verdict.specs.declared.Verdict.TheVariants.{Accepted, Refused}
+use Rattle.verdict.specs.Answers.{verdict_of}
 use Rattle.verdict.proofs.Rules.{refused_accepted}
+use Rattle.verdict.specs.Rules.{Verdict}
 
 -- what all channels spent
 abbrev spent_sum : (ℕ → ℕ) → ℕ
@@ -53,7 +53,7 @@ record Shared (q c : Quota) (f : ℕ → ℕ) : Type 0 where
   left : (k : ℕ) → get_or c.left k 0 ≡ get_or (kept q) k 0 - f (k + 1)
   all : spent_sum f + total c ≡ q.allowance
 
-shared_opened : (q : Quota) → open_verdict q ≡ Accepted → Shared q (open_quota q) (λ i. 0)
+shared_opened : (q : Quota) → open_verdict q ≡ Ok tt → Shared q (open_quota q) (λ i. 0)
 shared_opened q ok =
     rw (opened_accepted q ok)
     (record { channels = refl; allowance = refl; reserves = refl; left = λ k. omega arith; all = omega (arith, opened_fits q ok) })
@@ -83,7 +83,7 @@ spent_none i f = rw (put_same i f 1, put_same i f 2, put_same i f 3, put_same i 
 
 -- a channel's call takes n of what it has
 module _ {q c : Quota} {f : ℕ → ℕ} (x : Shared q c f) (i n : ℕ) where
-  left_after : channel_rule c i ≡ Accepted → (k : ℕ) → get_or (charged_for n c i).left k 0 ≡ get_or (kept q) k 0 - put i (f i + n) f (k + 1)
+  left_after : channel_rule c i ≡ Ok tt → (k : ℕ) → get_or (charged_for n c i).left k 0 ≡ get_or (kept q) k 0 - put i (f i + n) f (k + 1)
   left_after rule k = ⊎_elim here there (either (eqb k (i - 1)))
     where
       low : 1 ≤ i
@@ -103,7 +103,7 @@ module _ {q c : Quota} {f : ℕ → ℕ} (x : Shared q c f) (i n : ℕ) where
           let past : k + 1 ≢ i = λ z. apart (omega arith) in
           left_other_for n c i k apart ∙ x.left k ∙ ap (λ (m : ℕ). get_or (kept q) k 0 - m) (sym (put_other i (f i + n) f (k + 1) past))
 
-  shared_spent : channel_rule c i ≡ Accepted → n ≤ available c i → Shared q (charged_for n c i) (put i (f i + n) f)
+  shared_spent : channel_rule c i ≡ Ok tt → n ≤ available c i → Shared q (charged_for n c i) (put i (f i + n) f)
   shared_spent rule l =
       let s = shape_charged_for n c i in
       let r = rule_range c i rule in
@@ -129,22 +129,22 @@ shared_same {q} {c} {f} x i = record {
 module _ {n : Lengths} {w : Course} (d : AfterList n w) (c : Quota) (i : ℕ) where
   pass_paid : (v : Verdict) → channel_rule c i ≡ v → (H : History) → w.history ≡ H
       → (channel_pass_of c i w.state).quota ≡ charged_for (spent_as v (λ e. 1) c i H) c i
-  pass_paid Accepted k empty h = (d.quota_back c i (inl h)).0
-  pass_paid Accepted k (holds e) h = (d.channel_as_passes e h c i k).pass_quota
-  pass_paid (Refused r) k H h = (d.quota_back c i (inr (refused_accepted k))).0
+  pass_paid (Ok _) k empty h = (d.quota_back c i (inl h)).0
+  pass_paid (Ok _) k (holds e) h = (d.channel_as_passes e h c i k).pass_quota
+  pass_paid (Err r) k H h = (d.quota_back c i (inr (refused_accepted k))).0
 
   run_paid : (v : Verdict) → channel_rule c i ≡ v → (H : History) → w.history ≡ H
       → (channel_run_of c i w.state).quota ≡ charged_for (spent_as v (λ e. e.width * e.height + 1) c i H) c i
-  run_paid Accepted k empty h = (d.quota_back c i (inl h)).1
-  run_paid Accepted k (holds e) h = (d.channel_as_passes e h c i k).run_quota
-  run_paid (Refused r) k H h = (d.quota_back c i (inr (refused_accepted k))).1
+  run_paid (Ok _) k empty h = (d.quota_back c i (inl h)).1
+  run_paid (Ok _) k (holds e) h = (d.channel_as_passes e h c i k).run_quota
+  run_paid (Err r) k H h = (d.quota_back c i (inr (refused_accepted k))).1
 
 -- it spends no more than it has, and by 25 nothing
 shared_paid : {q c : Quota} {f : ℕ → ℕ} → Shared q c f → (i : ℕ) (most : Entry → ℕ) (v : Verdict) → channel_rule c i ≡ v → (H : History)
     → Shared q (charged_for (spent_as v most c i H) c i) (put i (f i + spent_as v most c i H) f)
-shared_paid x i most Accepted k empty = shared_same x i
-shared_paid {q} {c} x i most Accepted k (holds e) = shared_spent x i (spends (most e) c i e) k (omega arith)
-shared_paid x i most (Refused r) k H = shared_same x i
+shared_paid x i most (Ok _) k empty = shared_same x i
+shared_paid {q} {c} x i most (Ok _) k (holds e) = shared_spent x i (spends (most e) c i e) k (omega arith)
+shared_paid x i most (Err r) k H = shared_same x i
 
 record Sound (q : Quota) (a b : ℕ → List ℕ) (F : Fleet) : Type 0 where
   alone : (i : ℕ) → (cs : List Call) × (F.courses i ≡ played cs (a i) (b i))
@@ -176,7 +176,7 @@ one_at_most e = pick e.settled (passes_of_run 1 e) (few_passes 1 e)
     pick true n l = omega arith
     pick false n l = l
 
-module _ (q : Quota) (ok : open_verdict q ≡ Accepted) (a b : ℕ → List ℕ) where
+module _ (q : Quota) (ok : open_verdict q ≡ Ok tt) (a b : ℕ → List ℕ) where
   again : {c : Quota} {f : ℕ → ℕ} → Shared q c f → open_quota c ≡ open_quota q
   again {c} x = opened_again q c x.channels x.allowance x.reserves ok
 
@@ -209,26 +209,26 @@ module _ (q : Quota) (ok : open_verdict q ≡ Accepted) (a b : ℕ → List ℕ)
     reserved : (i : ℕ) → reserve_of (open_quota q) i ≡ get_or (kept q) (i - 1) 0
     reserved i = rw (opened_accepted q ok)
 
-    reserve : (i : ℕ) → channel_rule F.quota i ≡ Accepted → left_of F.quota i ≡ reserve_of (open_quota q) i - F.spent i
+    reserve : (i : ℕ) → channel_rule F.quota i ≡ Ok tt → left_of F.quota i ≡ reserve_of (open_quota q) i - F.spent i
     reserve i rule =
         let next : i - 1 + 1 ≡ i = omega (arith, (rule_range F.quota i rule).0) in
         x.shared.left (i - 1) ∙ ap (λ (j : ℕ). get_or (kept q) (i - 1) 0 - F.spent j) next ∙ ap (λ (n : ℕ). n - F.spent i) (sym (reserved i))
 
     -- a channel with n passes of its reserve left has n passes left
-    within_reserve : (i n : ℕ) → channel_rule F.quota i ≡ Accepted → F.spent i + n ≤ reserve_of (open_quota q) i → n ≤ available F.quota i
+    within_reserve : (i n : ℕ) → channel_rule F.quota i ≡ Ok tt → F.spent i + n ≤ reserve_of (open_quota q) i → n ≤ available F.quota i
     unfolding available
     within_reserve i n rule l = let r = reserve i rule in omega arith
 
-    usable_pass : (i : ℕ) (e : Entry) → channel_rule F.quota i ≡ Accepted → (F.courses i).history ≡ holds e → F.spent i < reserve_of (open_quota q) i
-        → refusal_of (answer_of (channel_pass F.quota i) (F.courses i).state) ≡ Accepted
+    usable_pass : (i : ℕ) (e : Entry) → channel_rule F.quota i ≡ Ok tt → (F.courses i).history ≡ holds e → F.spent i < reserve_of (open_quota q) i
+        → refusal_of (answer_of (channel_pass F.quota i) (F.courses i).state) ≡ Ok tt
     unfolding refused_by
     usable_pass i e rule h l =
         let some = within_reserve i 1 rule (omega arith) in
         (each x i).refused (channel_pass F.quota i) ∙ rw (h, rule, le-ltb (available F.quota i) (needed 1 e) (omega (arith, one_at_most e)))
 
-    usable_run : (i : ℕ) (e : Entry) → channel_rule F.quota i ≡ Accepted → (F.courses i).history ≡ holds e
+    usable_run : (i : ℕ) (e : Entry) → channel_rule F.quota i ≡ Ok tt → (F.courses i).history ≡ holds e
         → F.spent i + needed (e.width * e.height + 1) e ≤ reserve_of (open_quota q) i
-        → refusal_of (answer_of (channel_run F.quota i) (F.courses i).state) ≡ Accepted
+        → refusal_of (answer_of (channel_run F.quota i) (F.courses i).state) ≡ Ok tt
     unfolding refused_by
     usable_run i e rule h l =
         let some = within_reserve i (needed (e.width * e.height + 1) e) rule l in
@@ -249,10 +249,10 @@ module _ (q : Quota) (ok : open_verdict q ≡ Accepted) (a b : ℕ → List ℕ)
 
 -- the same refusal, or 24
 same_but : (i : ℕ) (o o' : ChannelOutcome) (p : Outcome) → PlainBut24 i o p → PlainBut24 i o' p
-    → SameBut24 i (passed_verdict o.answer) (passed_verdict o'.answer)
-same_but i o o' p (inl e) y = inr (inl (ap passed_verdict e))
-same_but i o o' p (inr e) (inl e') = inr (inr (ap passed_verdict e'))
-same_but i o o' p (inr e) (inr e') = inl (ap passed_verdict (e.0 ∙ sym e'.0))
+    → SameBut24 i (verdict_of o.answer) (verdict_of o'.answer)
+same_but i o o' p (inl e) y = inr (inl (ap verdict_of e))
+same_but i o o' p (inr e) (inl e') = inr (inr (ap verdict_of e'))
+same_but i o o' p (inr e) (inr e') = inl (ap verdict_of (e.0 ∙ sym e'.0))
 
 module _ (q q' : Quota) (i : ℕ) (s : State) (same : q.channels ≡ q'.channels) where
   same_rule : channel_rule q i ≡ channel_rule q' i
@@ -262,17 +262,17 @@ module _ (q q' : Quota) (i : ℕ) (s : State) (same : q.channels ≡ q'.channels
   only_24 : (v : Verdict) → channel_rule q i ≡ v → SameBut24 i (refusal_of (answer_of (channel_pass q i) s)) (refusal_of (answer_of (channel_pass q' i) s))
       × SameBut24 i (refusal_of (answer_of (channel_run q i) s)) (refusal_of (answer_of (channel_run q' i) s))
   unfolding answer_of
-  only_24 Accepted k =
+  only_24 (Ok tt) k =
       let u = unmetered q i s k in
       let u' = unmetered q' i s (sym same_rule ∙ k) in (
         same_but i (channel_pass_of q i s) (channel_pass_of q' i s) (pass_of s) u.pass_plain u'.pass_plain,
         same_but i (channel_run_of q i s) (channel_run_of q' i s) (run_of s) u.run_plain u'.run_plain,
       )
-  only_24 (Refused r) k =
+  only_24 (Err r) k =
       let p = channel_barred q i s k in
       let p' = channel_barred q' i s (sym same_rule ∙ k) in (
-        inl (ap (λ (o : ChannelOutcome). passed_verdict o.answer) p ∙ sym (ap (λ (o : ChannelOutcome). passed_verdict o.answer) p')),
-        inl (ap (λ (o : ChannelOutcome). passed_verdict o.answer) (run_unmade q i s p) ∙ sym (ap (λ (o : ChannelOutcome). passed_verdict o.answer) (run_unmade q' i s p'))),
+        inl (ap (λ (o : ChannelOutcome). verdict_of o.answer) p ∙ sym (ap (λ (o : ChannelOutcome). verdict_of o.answer) p')),
+        inl (ap (λ (o : ChannelOutcome). verdict_of o.answer) (run_unmade q i s p) ∙ sym (ap (λ (o : ChannelOutcome). verdict_of o.answer) (run_unmade q' i s p'))),
       )
 
 pub rounds : Rounds

@@ -3,6 +3,7 @@
 --     load_stays, pass_stays, run_stays     load, pass and run; channel_stays, channel_run_stays: a channel's pass and run
 --     kept                 the claim, for every call
 -- Assumes nothing.
+use Rattle.std.specs.Prelude.{Ok, Err}
 use mathlib.Core.Bool.{true, ◌||◌}
 use mathlib.Core.List.Memᴰ
 use mathlib.Core.Logic.{⊎_elim}
@@ -26,6 +27,7 @@ use Rattle.history.specs.Run.{run_of}
 use Rattle.history.specs.Sound.{Ready}
 use Rattle.history.specs.Source.{Source, source_verdict, source_width, source_height, source_pixels}
 use Rattle.history.specs.State.{State, pixels, even}
+use Rattle.verdict.specs.declared.Rule.TheVariants as why
 use Rattle.history.proofs.ChannelPasses as ways
 use Rattle.history.proofs.ChannelPasses.{ChannelWay, channel_way}
 use Rattle.history.proofs.ChannelRuns.{ends_channel}
@@ -37,8 +39,7 @@ use Rattle.history.proofs.Sources.{source_length}
 use Rattle.seq.proofs.Lists.{clash, either}
 use Rattle.seq.proofs.Tests.{or_none_left}
 use Rattle.table.specs.declared.Table.{Table}
-use Rattle.verdict.specs.declared.Verdict.{Verdict}
-use Rattle.verdict.specs.declared.Verdict.TheVariants.{Accepted, Refused}
+use Rattle.verdict.specs.Rules.{Verdict}
 use Rattle.verdict.specs.Writer.{over}
 use Rattle.verdict.proofs.Rules.{judge_accepted, refuse_if_accepted}
 use Rattle.verdict.proofs.Writer.{drop_over, length_over}
@@ -126,15 +127,15 @@ channel_run_stays q i s = let x = ends_channel q i s in rw x.last (by x.finished
         next (before k s g) (rw (goes_pixels k s g) at (channel_stays (charged_for k q i) i (after_passes k s)))
 
 -- an accepted load has an accepted source, and room in the first area
-load_source : (t : Table) (x : Source) (s : State) → load_verdict t x s ≡ Accepted → source_verdict x ≡ Accepted
+load_source : (t : Table) (x : Source) (s : State) → load_verdict t x s ≡ Ok tt → source_verdict x ≡ Ok tt
 unfolding load_verdict
 load_source t x s e = judge_accepted {vs = load_rules t x s} e (Memᴰ.tail (Memᴰ.tail (Memᴰ.tail (Memᴰ.head refl))))
 
-load_room : (t : Table) (x : Source) (s : State) → load_verdict t x s ≡ Accepted → source_width x * source_height x ≤ length s.first
+load_room : (t : Table) (x : Source) (s : State) → load_verdict t x s ≡ Ok tt → source_width x * source_height x ≤ length s.first
 unfolding load_verdict
 load_room t x s e =
     let size = source_width x * source_height x in
-    let room = refuse_if_accepted (ltb (length s.first) size || ltb (length s.second) size) 13 0
+    let room = refuse_if_accepted (ltb (length s.first) size || ltb (length s.second) size) why.AreaShort 0
     (judge_accepted {vs = load_rules t x s} e (Memᴰ.tail (Memᴰ.tail (Memᴰ.tail (Memᴰ.tail (Memᴰ.head refl)))))) in
     ltb-false (length s.first) size (or_none_left (ltb (length s.first) size) (ltb (length s.second) size) room)
 
@@ -143,8 +144,8 @@ unfolding load_state
 load_stays t x s = by (load_verdict t x s) refl
   where
     by : (v : Verdict) → load_verdict t x s ≡ v → Stays (source_width x * source_height x) s (load_as v t x s)
-    by (Refused r) e = same (source_width x * source_height x) s
-    by Accepted e = record {
+    by (Err r) e = same (source_width x * source_height x) s
+    by (Ok _) e = record {
       first_long = length_over (source_pixels x) s.first (omega (arith, source_length x (load_source t x s e), load_room t x s e));
       second_long = refl;
       first_past = drop_over (source_pixels x) s.first (source_width x * source_height x) (source_length x (load_source t x s e));
@@ -156,8 +157,8 @@ unfolding collect_state
 collect_stays n s = by (collect_verdict n s)
   where
     by : (v : Verdict) → Stays 0 s (collect_as v s)
-    by Accepted = record { first_long = refl; second_long = refl; first_past = refl; second_past = refl }
-    by (Refused r) = same 0 s
+    by (Ok _) = record { first_long = refl; second_long = refl; first_past = refl; second_past = refl }
+    by (Err r) = same 0 s
 
 stays : (c : Call) (s : State) → Stays (reach c s) s (state_of c s)
 unfolding state_of
@@ -176,8 +177,8 @@ unfolding state_of load_state
 load_second (load t x) s l = by (load_verdict t x s)
   where
     by : (v : Verdict) → (load_as v t x s).second ≡ s.second
-    by Accepted = refl
-    by (Refused r) = refl
+    by (Ok _) = refl
+    by (Err r) = refl
 load_second pass s l = clash l refl
 load_second run s l = clash l refl
 load_second view s l = clash l refl

@@ -23,7 +23,7 @@ pub mod Related
 pub mod Sound
 pub mod Pass
 pub mod View
-pub mod Figures
+pub mod FiguresOf
 pub mod Run
 pub mod Channel
 pub mod Load

@@ -6,6 +6,7 @@
 --     played_lengths                and the areas have the lengths of the start
 --     play_append                   one list after another
 -- Assumes nothing.
+use Rattle.std.specs.Prelude.{Ok, Err}
 use mathlib.Core.List.{List, [], ◌∷◌, ◌++◌}
 use mathlib.Core.Path.{◌≡◌, refl, ◌∙◌, subst⁻¹}
 use Prim.Native.Nat.{ℕ, zero, suc, ◌+◌, ◌*◌}
@@ -27,8 +28,7 @@ use Rattle.history.proofs.Pass.{pass_held}
 use Rattle.history.proofs.Refused.{pass_empty, run_empty}
 use Rattle.history.proofs.Related.{RelatedTo, Related}
 use Rattle.history.proofs.Run.{course, run_as_passes}
-use Rattle.verdict.specs.declared.Verdict.{Verdict}
-use Rattle.verdict.specs.declared.Verdict.TheVariants.{Accepted, Refused}
+use Rattle.verdict.specs.Rules.{Verdict}
 
 -- the relation after a call
 abbrev Kept : Call → State → History → ℕ → Type 0
@@ -58,8 +58,8 @@ channel_pass_keeps c i s empty n q = let (x, e, p) = empty_unmade c i s q in rw 
 channel_pass_keeps c i s (holds e) n r = by (channel_rule c i) refl
   where
     by : (v : Verdict) → channel_rule c i ≡ v → Kept (channel_pass c i) s (holds e) n
-    by (Refused x) k = rw (k, channel_barred c i s k) r
-    by Accepted k = subst⁻¹ Related (channel_as_passes c i k r).pass_singly (passes_keep (made 1 c i e) (course s e n) r)
+    by (Err x) k = rw (k, channel_barred c i s k) r
+    by (Ok _) k = subst⁻¹ Related (channel_as_passes c i k r).pass_singly (passes_keep (made 1 c i e) (course s e n) r)
 
 channel_run_keeps : (c : Quota) (i : ℕ) (s : State) (H : History) (n : ℕ) → RelatedTo s H n → Kept (channel_run c i) s H n
 unfolding step state_of after barred_by refused_by
@@ -67,8 +67,8 @@ channel_run_keeps c i s empty n q = let (x, e, p) = empty_unmade c i s q in rw (
 channel_run_keeps c i s (holds e) n r = by (channel_rule c i) refl
   where
     by : (v : Verdict) → channel_rule c i ≡ v → Kept (channel_run c i) s (holds e) n
-    by (Refused x) k = rw (k, run_unmade c i s (channel_barred c i s k)) r
-    by Accepted k = subst⁻¹ Related (channel_as_passes c i k r).run_singly (passes_keep (made (e.width * e.height + 1) c i e) (course s e n) r)
+    by (Err x) k = rw (k, run_unmade c i s (channel_barred c i s k)) r
+    by (Ok _) k = subst⁻¹ Related (channel_as_passes c i k r).run_singly (passes_keep (made (e.width * e.height + 1) c i e) (course s e n) r)
 
 pub keeps : (c : Call) (s : State) (H : History) (n : ℕ) → RelatedTo s H n → Kept c s H n
 unfolding step state_of after barred_by refused_by accepted tallied

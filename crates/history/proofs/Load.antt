@@ -4,6 +4,7 @@
 --     load_entered                 after it the job holds its entry
 --     load_keeps                   the relation after it
 -- Assumes nothing.
+use Rattle.std.specs.Prelude.{Ok, Err}
 use mathlib.Core.Bool.{false, ◌||◌}
 use mathlib.Core.List.{[], ◌∷◌}
 use mathlib.Core.Path.{◌≡◌, refl, sym}
@@ -18,6 +19,7 @@ use Rattle.history.specs.Lists.{lengths_of, tallied, tally_as}
 use Rattle.history.specs.Load.{areas_rule, load_verdict, loaded_job, load_as, load_state}
 use Rattle.history.specs.Source.{Source, source_verdict, source_width, source_height, source_pixels}
 use Rattle.history.specs.State.{State, empty_job, present, image}
+use Rattle.verdict.specs.declared.Rule.TheVariants as why
 use Rattle.history.proofs.Related.{step_counts, Held, RelatedTo}
 use Rattle.history.proofs.Parts.{good_loaded}
 use Rattle.history.proofs.Row.{alone}
@@ -27,9 +29,7 @@ use Rattle.seq.proofs.Lists.{clash}
 use Rattle.seq.proofs.Tests.{or_none_left, or_none_right}
 use Rattle.table.specs.declared.Table.{Table}
 use Rattle.table.specs.Record.{record_verdict}
-use Rattle.verdict.specs.declared.Verdict.{Verdict}
-use Rattle.verdict.specs.declared.Verdict.TheVariants.{Accepted, Refused}
-use Rattle.verdict.specs.Rules.{refusal, judge}
+use Rattle.verdict.specs.Rules.{refusal, judge, Verdict}
 use Rattle.verdict.proofs.Rules.{or_else_left, or_else_right, refuse_if_accepted}
 use Rattle.verdict.proofs.Writer.{take_over, length_over}
 
@@ -37,22 +37,22 @@ pub load_empty : (t : Table) (x : Source) (s : State) → s.job ≡ empty_job �
 unfolding load_verdict refused_by lengths_of empty_job
 load_empty t x s q = rw (sound_empty s q, q)
 
-pub load_held : (t : Table) (x : Source) {s : State} {e : Entry} {n : ℕ} → Held s e n → load_verdict t x s ≡ Refused (refusal 15 0)
+pub load_held : (t : Table) (x : Source) {s : State} {e : Entry} {n : ℕ} → Held s e n → load_verdict t x s ≡ Err (refusal why.NotCollected 0)
 unfolding load_verdict
 load_held t x r = simp (sound_held r, r.job, stage_held)
 
-refused_held : (t : Table) (x : Source) (n : Lengths) (e : Entry) → refused_by (load t x) n (holds e) ≡ Refused (refusal 15 0)
+refused_held : (t : Table) (x : Source) (n : Lengths) (e : Entry) → refused_by (load t x) n (holds e) ≡ Err (refusal why.NotCollected 0)
 unfolding refused_by
 refused_held t x n e = refl
 
 -- what an accepted load has shown
 record Fits (t : Table) (x : Source) (s : State) : Type 0 where
-  table : record_verdict t ≡ Accepted
-  source : source_verdict x ≡ Accepted
+  table : record_verdict t ≡ Ok tt
+  source : source_verdict x ≡ Ok tt
   first_long : source_width x * source_height x ≤ length s.first
   second_long : source_width x * source_height x ≤ length s.second
 
-fits : (t : Table) (x : Source) (s : State) → refused_by (load t x) (lengths_of s) empty ≡ Accepted → Fits t x s
+fits : (t : Table) (x : Source) (s : State) → refused_by (load t x) (lengths_of s) empty ≡ Ok tt → Fits t x s
 unfolding refused_by lengths_of
 fits t x s a = record {
   table = or_else_left (record_verdict t) rest a;
@@ -70,16 +70,16 @@ fits t x s a = record {
     rest : Verdict
     rest = judge (source_verdict x ∷ areas ∷ [])
 
-    after_table : rest ≡ Accepted
+    after_table : rest ≡ Ok tt
     after_table = or_else_right (record_verdict t) rest a
 
     long : (ltb (length s.first) size || ltb (length s.second) size) ≡ false
     long =
-        refuse_if_accepted (ltb (length s.first) size || ltb (length s.second) size) 13 0
-        (or_else_left areas Accepted (or_else_right (source_verdict x) (judge (areas ∷ [])) after_table))
+        refuse_if_accepted (ltb (length s.first) size || ltb (length s.second) size) why.AreaShort 0
+        (or_else_left areas (Ok tt) (or_else_right (source_verdict x) (judge (areas ∷ [])) after_table))
 
 -- the image is read back from the first area, and there is no step yet
-load_entered : (t : Table) (x : Source) (s : State) → Fits t x s → Held (load_as Accepted t x s) (entered t x) 0
+load_entered : (t : Table) (x : Source) (s : State) → Fits t x s → Held (load_as (Ok tt) t x s) (entered t x) 0
 unfolding entered loaded_job step_counts image present
 load_entered t x s y = let sized = (source_image x y.source).sized in record {
   job = refl;
@@ -102,6 +102,6 @@ load_keeps t x s empty n q = rw (load_empty t x s q) (go (refused_by (load t x) 
   where
     go : (v : Verdict) → refused_by (load t x) (lengths_of s) empty ≡ v
         → RelatedTo (load_as v t x s) (after_as v (load t x) empty) (tally_as v (load t x) empty n)
-    go Accepted a = load_entered t x s (fits t x s a)
-    go (Refused r) a = q
+    go (Ok _) a = load_entered t x s (fits t x s a)
+    go (Err r) a = q
 load_keeps t x s (holds e) n r = rw (load_held t x r, refused_held t x (lengths_of s) e) r

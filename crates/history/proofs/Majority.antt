@@ -2,6 +2,7 @@
 --     as_one, as_same, as_alike     sources that have verdict, size and pixels in common
 --     job_majority                  the claim
 -- Assumes nothing.
+use Rattle.std.specs.Prelude.{Ok, Err}
 use mathlib.Core.Bool.{false}
 use mathlib.Core.List.{List, [], ◌∷◌}
 use mathlib.Core.Logic.{◌≢◌}
@@ -16,6 +17,7 @@ use Rattle.history.specs.Load.{areas_rule, admit_rules, load_verdict}
 use Rattle.history.specs.Majority.{majority_file, FromThree, JobMajority}
 use Rattle.history.specs.Source.{from_file, from_three}
 use Rattle.history.specs.State.{State}
+use Rattle.verdict.specs.declared.Rule.TheVariants as why
 use Rattle.history.proofs.Demand3.{demand_3}
 use Rattle.history.proofs.Images.{image_writable}
 use Rattle.history.proofs.Padding.{load_refusals}
@@ -33,9 +35,7 @@ use Rattle.operator.proofs.Majority.{majority_exchanged, majority_ordered}
 use Rattle.operator.specs.Image.{exchange, Below}
 use Rattle.table.specs.declared.Table.{Table}
 use Rattle.verdict.specs.declared.Refusal.{Refusal}
-use Rattle.verdict.specs.declared.Verdict.{Verdict}
-use Rattle.verdict.specs.declared.Verdict.TheVariants.{Accepted, Refused}
-use Rattle.verdict.specs.Rules.{refuse_if, judge}
+use Rattle.verdict.specs.Rules.{refuse_if, judge, Verdict, number_of}
 use Rattle.verdict.proofs.Numbers.{one_of_other}
 use Rattle.verdict.proofs.Rules.{judge_within}
 
@@ -44,7 +44,7 @@ abbrev one_part : ℕ → List ℕ
 one_part h = h ∷ []
 
 -- the file of the majority is accepted, and gives it back
-as_one : (f g h : List ℕ) → three_verdict f g h ≡ Accepted → SameSource (from_three f g h) (from_file (majority_file f g h))
+as_one : (f g h : List ℕ) → three_verdict f g h ≡ Ok tt → SameSource (from_three f g h) (from_file (majority_file f g h))
 as_one f g h e =
     let whole = source_image (from_three f g h) e in
     let back = image_round_trip.image_back (width_of f) (height_of f) _ (image_writable (accepted_file f (three_good f g h e).first).sized whole) in
@@ -58,9 +58,9 @@ same_verdict f = by (file_verdict f)
     own : size_differs f f ≡ false
     own = rw (eq-eqb (width_of f) (width_of f) refl, eq-eqb (height_of f) (height_of f) refl)
 
-    by : (v : Verdict) → judge (v ∷ v ∷ v ∷ refuse_if (size_differs f f) 26 2 ∷ refuse_if (size_differs f f) 26 3 ∷ []) ≡ v
-    by Accepted = rw own
-    by (Refused r) = refl
+    by : (v : Verdict) → judge (v ∷ v ∷ v ∷ refuse_if (size_differs f f) why.SizesDiffer 2 ∷ refuse_if (size_differs f f) why.SizesDiffer 3 ∷ []) ≡ v
+    by (Ok _) = rw own
+    by (Err r) = refl
 
 as_same : (f : List ℕ) → SameSource (from_three f f f) (from_file f)
 as_same f = record { verdict = same_verdict f; width = refl; height = refl; parts = refl; pixels = majority_same (image_of f) (image_binary f) }
@@ -97,11 +97,11 @@ module _ {e e' : Entry} {f g h f' g' h' : List ℕ} (x : FromThree e f g h) (x' 
       rw (x.first, x'.first)
       (majority_ordered i.first i.second i.third (rw (wide, high) at j.first) (rw (wide, high) at j.second) (rw (wide, high) at j.third) p q r)
 
-never : (t : Table) (f g h : List ℕ) (s : State) (r : Refusal) → refusal_of (answer_of (load t (from_three f g h)) s) ≡ Refused r → r.number ≢ 12
+never : (t : Table) (f g h : List ℕ) (s : State) (r : Refusal) → refusal_of (answer_of (load t (from_three f g h)) s) ≡ Err r → number_of r ≢ 12
 unfolding answer_of
 never t f g h s r q = one_of_other (load_refusals t (from_three f g h) s (three_numbers f g h)) refl q
 
-entry : (t : Table) (f g h : List ℕ) → three_verdict f g h ≡ Accepted → FromThree (entered t (from_three f g h)) f g h
+entry : (t : Table) (f g h : List ℕ) → three_verdict f g h ≡ Ok tt → FromThree (entered t (from_three f g h)) f g h
 unfolding entered
 entry t f g h e = record { accepted = e; width = refl; height = refl; first = refl }
 

@@ -3,6 +3,7 @@
 --     call_numbers, call_numbers_lem      what the history refuses by
 --     never_14                       the claim
 -- Assumes nothing.
+use Rattle.std.specs.Prelude.{Err}
 use mathlib.Core.Bool.{not}
 use mathlib.Core.List.{List, [], ◌∷◌}
 use mathlib.Core.Logic.{◌≢◌}
@@ -16,15 +17,15 @@ use Rattle.history.specs.declared.Quota.{Quota}
 use Rattle.history.specs.Load.{areas_rule}
 use Rattle.history.specs.Quota.{lacks, channel_rule, available}
 use Rattle.history.specs.Source.{Source, source_verdict}
+use Rattle.verdict.specs.declared.Rule.TheVariants as why
 use Rattle.history.proofs.Refusals.{input_says}
 use Rattle.history.proofs.Sources.{source_numbers}
 use Rattle.table.proofs.Verdicts.{record_numbers}
 use Rattle.table.specs.declared.Table.{Table}
 use Rattle.table.specs.Record.{record_verdict}
 use Rattle.verdict.specs.declared.Refusal.{Refusal}
-use Rattle.verdict.specs.declared.Verdict.TheVariants.{Refused}
 use Rattle.verdict.specs.Numbers.{by, OneOf, accepts, refuses}
-use Rattle.verdict.specs.Rules.{judge}
+use Rattle.verdict.specs.Rules.{judge, number_of}
 use Rattle.verdict.proofs.Numbers.{says_if, says_or, one_of_more, one_of_other}
 
 -- because of the input
@@ -40,7 +41,7 @@ load_numbers_lem t x n m = input_says t x n m (one_of_more (record_numbers t) re
 
 channel_numbers : (q : Quota) (i : ℕ) → OneOf call_numbers (channel_rule q i)
 unfolding channel_rule
-channel_numbers q i = says_if (lacks q i) 25 0 (by refl)
+channel_numbers q i = says_if (lacks q i) why.QuotaRange 0 (by refl)
 
 call_numbers_lem : (c : Call) (n : Lengths) (H : History) → OneOf call_numbers (refused_by c n H)
 unfolding refused_by
@@ -56,13 +57,13 @@ call_numbers_lem figures n empty = refuses (by refl)
 call_numbers_lem figures n (holds e) = accepts
 call_numbers_lem (collect out) n empty = refuses (by refl)
 call_numbers_lem (collect out) n (holds e) =
-    says_or (says_if (not e.settled) 17 0 (by refl))
-    (says_or (says_if (ltb (length out) (length (files_of e))) 13 0 (by refl)) accepts)
+    says_or (says_if (not e.settled) why.NotStable 0 (by refl))
+    (says_or (says_if (ltb (length out) (length (files_of e))) why.AreaShort 0 (by refl)) accepts)
 call_numbers_lem (channel_pass q i) n empty = says_or (channel_numbers q i) (says_or (refuses (by refl)) accepts)
-call_numbers_lem (channel_pass q i) n (holds e) = says_or (channel_numbers q i) (says_or (says_if (ltb (available q i) (needed 1 e)) 24 i (by refl)) accepts)
+call_numbers_lem (channel_pass q i) n (holds e) = says_or (channel_numbers q i) (says_or (says_if (ltb (available q i) (needed 1 e)) why.AllowanceSpent i (by refl)) accepts)
 call_numbers_lem (channel_run q i) n empty = says_or (channel_numbers q i) (says_or (refuses (by refl)) accepts)
 call_numbers_lem (channel_run q i) n (holds e) =
-    says_or (channel_numbers q i) (says_or (says_if (ltb (available q i) (needed (e.width * e.height + 1) e)) 24 i (by refl)) accepts)
+    says_or (channel_numbers q i) (says_or (says_if (ltb (available q i) (needed (e.width * e.height + 1) e)) why.AllowanceSpent i (by refl)) accepts)
 
-pub never_14 : (c : Call) (n : Lengths) (H : History) (r : Refusal) → refused_by c n H ≡ Refused r → r.number ≢ 14
+pub never_14 : (c : Call) (n : Lengths) (H : History) (r : Refusal) → refused_by c n H ≡ Err r → number_of r ≢ 14
 never_14 c n H r q = one_of_other (call_numbers_lem c n H) refl q

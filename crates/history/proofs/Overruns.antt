@@ -5,6 +5,7 @@
 --     still_ready                passes that change pixels leave the record ready
 --     refused_pass               a pass of a run is refused under the clause only
 -- Assumes nothing.
+use Rattle.std.specs.Prelude.{Ok, Err}
 use mathlib.Core.Bool.{true, false}
 use mathlib.Core.Logic.{inl, inr, ⊎_elim}
 use mathlib.Core.Path.{◌≡◌, refl, sym, ap, ◌∙◌}
@@ -12,11 +13,11 @@ use Prim.Native.Nat.{ℕ, zero, suc, ◌+◌}
 use native.Mathlib.Omega.{arith}
 use borrow.Author.Tests.{ltb-true, lt-ltb}
 use lib.Dec.{ltb}
+use Rattle.history.specs.declared.Effect.TheVariants.{Changed}
 use Rattle.operator.specs.Image.{differs}
+use Rattle.verdict.specs.declared.Rule.TheVariants as why
 use Rattle.operator.proofs.Counts.{differs_equal, equal_differs}
-use Rattle.history.specs.declared.Passed.{Passed}
-use Rattle.history.specs.declared.Passed.TheVariants as passing
-use Rattle.history.specs.Answers.{passed_verdict}
+use Rattle.history.specs.Answers.{Passed}
 use Rattle.history.specs.Demand1.{after_passes, Goes}
 use Rattle.history.specs.Pass.{Outcome, next_image, now_added, now_removed, exceeds, pass_of}
 use Rattle.history.specs.Sound.{Unsound, Overruns, Ready}
@@ -28,8 +29,8 @@ use Rattle.history.proofs.Ready.{ready_sound, ready_accepted, ready_image, ready
 use Rattle.history.proofs.Runs.{goes_ready}
 use Rattle.history.proofs.Unsound.{unsound_words, sound_none, sound_ready}
 use Rattle.seq.proofs.Lists.{clash, not_true_false, or_cases, or_left, or_right}
+use Rattle.verdict.specs.Answers.{verdict_of}
 use Rattle.verdict.specs.declared.Refusal.{Refusal}
-use Rattle.verdict.specs.declared.Verdict.TheVariants.{Refused}
 use Rattle.verdict.specs.Rules.{refusal}
 use Rattle.verdict.proofs.Rules.{refused_accepted}
 
@@ -50,7 +51,7 @@ module _ {s : State} where
         (or_cases (ltb (pixels s.job) (s.job.passes + 1)) (ltb (pixels s.job) (now_added s + now_removed s)) x);
   }
 
-  pub overrun_pass : Overruns s → (pass_of s).answer ≡ passing.Refused (refusal 14 0)
+  pub overrun_pass : Overruns s → (pass_of s).answer ≡ Err (refusal why.Unsound 0)
   unfolding exceeds
   overrun_pass o = by (way s)
     where
@@ -59,7 +60,7 @@ module _ {s : State} where
           ⊎_elim (λ l. or_left (ltb (pixels s.job) (now_added s + now_removed s)) (lt-ltb _ _ l))
           (λ l. or_right (ltb (pixels s.job) (s.job.passes + 1)) (lt-ltb _ _ l)) o.above
 
-      by : Way s → (pass_of s).answer ≡ passing.Refused (refusal 14 0)
+      by : Way s → (pass_of s).answer ≡ Err (refusal why.Unsound 0)
       by (passes.refused x e p) = refused_accepted e (ready_accepted (sound_ready s (sound s o.sound) (λ z. omega (arith, o.loaded))))
       by (passes.resting r z p) = absurd (omega (arith, o.loaded))
       by (passes.quiet r z d p) = absurd (o.changes (sym (differs_equal (image s) (next_image s) ((ready_image r).sized ∙ sym (ready_next r).sized) d)))
@@ -67,7 +68,7 @@ module _ {s : State} where
       by (passes.stopped r z d x p) = ap (λ (u : Outcome). u.answer) p
 
 -- a refusal is not "changed"
-pub refused_changed : {a : Passed} {r : Refusal} → a ≡ passing.Refused r → a ≡ passing.Changed → ⊥
+pub refused_changed : {a : Passed} {r : Refusal} → a ≡ Err r → a ≡ Ok Changed → ⊥
 refused_changed p q = let z : ◌≡◌ {A = ℕ} 0 1 = cc in omega arith
 
 -- a pass of a run that is refused
@@ -76,13 +77,13 @@ still_ready s ready zero g = ready
 still_ready s ready (suc k) g = goes_ready k s g
 
 module _ (s : State) (ready : Ready s) {r : Refusal} where
-  pub refused_pass : (k : ℕ) → Goes k s → passed_verdict (pass_of (after_passes k s)).answer ≡ Refused r
-      → (r ≡ refusal 14 0) × Overruns (after_passes k s)
+  pub refused_pass : (k : ℕ) → Goes k s → verdict_of (pass_of (after_passes k s)).answer ≡ Err r
+      → (r ≡ refusal why.Unsound 0) × Overruns (after_passes k s)
   refused_pass k g q = by (way (after_passes k s))
     where
-      by : Way (after_passes k s) → (r ≡ refusal 14 0) × Overruns (after_passes k s)
+      by : Way (after_passes k s) → (r ≡ refusal why.Unsound 0) × Overruns (after_passes k s)
       by (passes.refused x e p) = refused_accepted e (ready_accepted (still_ready s ready k g))
       by (passes.resting x z p) = refused_accepted q (rw p)
       by (passes.quiet x z d p) = refused_accepted q (rw p)
       by (passes.changes x z d e p) = refused_accepted q (rw p)
-      by (passes.stopped x z d e p) = let same : Refused (refusal 14 0) ≡ Refused r = sym (rw p) ∙ q in (cc, overruns x z d e)
+      by (passes.stopped x z d e p) = let same : Err (refusal why.Unsound 0) ≡ Err r = sym (rw p) ∙ q in (cc, overruns x z d e)

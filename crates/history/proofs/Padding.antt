@@ -2,6 +2,7 @@
 --     load_refusals   the numbers that a load is refused by; 12 is none of them
 --     job_padding     the claim
 -- Assumes nothing.
+use Rattle.std.specs.Prelude.{Ok, Err}
 use mathlib.Core.Bool.{true}
 use mathlib.Core.List.{List, [], ◌∷◌}
 use mathlib.Core.Logic.{◌≢◌}
@@ -31,11 +32,10 @@ use Rattle.image.specs.Padding.{unused_zero, cleared}
 use Rattle.table.proofs.Verdicts.{record_numbers}
 use Rattle.table.specs.declared.Table.{Table}
 use Rattle.verdict.specs.declared.Refusal.{Refusal}
-use Rattle.verdict.specs.declared.Verdict.TheVariants.{Refused}
-use Rattle.verdict.specs.declared.Written.TheVariants.{Length}
 use Rattle.verdict.specs.Numbers.{by, OneOf}
 use Rattle.verdict.proofs.Numbers.{one_of_more, one_of_other}
 use Rattle.verdict.proofs.Rules.{or_else_left}
+use Rattle.verdict.specs.Rules.{number_of}
 
 abbrev load_numbers : List ℕ
 load_numbers = 3 ∷ 4 ∷ 5 ∷ 6 ∷ 7 ∷ 13 ∷ 14 ∷ 15 ∷ 18 ∷ file_numbers
@@ -47,7 +47,7 @@ load_refusals t x s n = load_says t x s (by refl) (by refl) (one_of_more (record
 alike : (f g : List ℕ) → cleared f ≡ cleared g → SameSource (from_file f) (from_file g)
 alike f g e = let i = same_image f g e in record { verdict = i.verdict; width = i.width; height = i.height; parts = ap (λ (h : ℕ). h ∷ []) i.height; pixels = i.pixels }
 
-zeros : (out : List ℕ) (s : State) (m : ℕ) (after : List ℕ) → answer_of (collect out) s ≡ collected (Length m) after
+zeros : (out : List ℕ) (s : State) (m : ℕ) (after : List ℕ) → answer_of (collect out) s ≡ collected (Ok m) after
     → (i : ℕ) → i < s.job.strip.parts → unused_zero (take (length (part_file s i)) (drop (part_start s i) (take m after))) ≡ true
 unfolding answer_of collecting.collect_written collecting.collect_output collecting.collected
 zeros out s m after q i l =
@@ -60,7 +60,7 @@ zeros out s m after q i l =
     rw (bytes, part_file_lem s.job.width hs (image s) i place)
     (image_round_trip.written_zero _ _ _ (part_good listed (image s) (good_rows good (image s) (ready_image ready).sized) (ready_image ready).binary i place))
 
-never : (t : Table) (f : List ℕ) (s : State) (r : Refusal) → refusal_of (answer_of (load t (from_file f)) s) ≡ Refused r → r.number ≢ 12
+never : (t : Table) (f : List ℕ) (s : State) (r : Refusal) → refusal_of (answer_of (load t (from_file f)) s) ≡ Err r → number_of r ≢ 12
 unfolding answer_of
 never t f s r q = one_of_other (load_refusals t (from_file f) s (file_numbers_lem f)) refl q
 

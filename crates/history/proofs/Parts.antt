@@ -8,6 +8,7 @@
 --     Counted n xs, counted_more              counts of parts that sum to n, zeros past the parts; so with those of a step
 --     good_changed                            after a pass that changes pixels
 -- Assumes nothing.
+use Rattle.std.specs.Prelude.{Ok, Err}
 use mathlib.Core.Bool.{Bool, true, false, not, ◌&&◌, ◌||◌}
 use mathlib.Core.List.{List, [], ◌∷◌, Memᴰ}
 use mathlib.Core.Path.{◌≡◌, refl, sym, ap, ap₂, ◌∙◌}
@@ -33,9 +34,7 @@ use Rattle.seq.proofs.Tab.{get_d_tab}
 use Rattle.seq.proofs.Tests.{or_none_left, or_none_right}
 use Rattle.seq.specs.Lists.{any, all, sum_of}
 use Rattle.seq.specs.Tab.{tab}
-use Rattle.verdict.specs.declared.Verdict.{Verdict}
-use Rattle.verdict.specs.declared.Verdict.TheVariants.{Accepted, Refused}
-use Rattle.verdict.specs.Rules.{is_accepted}
+use Rattle.verdict.specs.Rules.{is_accepted, Verdict}
 
 -- counts of n parts that sum to m, with zeros past them
 pub record Counted (n m : ℕ) (xs : List ℕ) : Type 0 where
@@ -55,9 +54,9 @@ pub record GoodParts (j : Job) : Type 0 where
 pub good_past : {j : Job} → GoodParts j → {xs : List ℕ} → Memᴰ xs (part_fields j) → all (eqb 0) (drop j.strip.parts xs) ≡ true
 good_past {j} g m = all_elim (λ xs. all (eqb 0) (drop j.strip.parts xs)) (rw (g.widths_past, g.heights_past, g.added.past, g.removed.past)) m
 
-pub is_accepted_lem : (v : Verdict) → not (is_accepted v) ≡ false → v ≡ Accepted
-is_accepted_lem Accepted e = refl
-is_accepted_lem (Refused r) e = clash refl e
+pub is_accepted_lem : (v : Verdict) → not (is_accepted v) ≡ false → v ≡ Ok tt
+is_accepted_lem (Ok _) e = refl
+is_accepted_lem (Err r) e = clash refl e
 
 module _ (j : Job) where
   -- 14's conditions on the parts in their order, as `bad_parts` joins them

@@ -6,6 +6,7 @@
 --     held_resting, held_changed, held_quiet    the relation after each
 --     pass_held                                 the relation after a pass
 -- Assumes nothing.
+use Rattle.std.specs.Prelude.{Ok}
 use mathlib.Core.Bool.{true, false}
 use mathlib.Core.List.{List, ◌∷◌}
 use mathlib.Core.Logic.{⊎_elim}
@@ -16,11 +17,11 @@ use native.Mathlib.Numerals.{add-one}
 use native.Mathlib.Omega.{arith}
 use borrow.Author.Tests.{le-ltb}
 use lib.ListN.{length, get_or}
+use Rattle.history.specs.declared.Effect.TheVariants.{Changed, Stable}
 use Rattle.operator.specs.Image.{IsImage, added, removed, differs}
 use Rattle.operator.specs.Pass as operator
 use Rattle.operator.proofs.Counts.{all_counts, differs_equal}
 use Rattle.history.specs.declared.Job.{Job}
-use Rattle.history.specs.declared.Passed.TheVariants as answer
 use Rattle.history.specs.History.{Entry, next_of, joined, marked, passed}
 use Rattle.history.specs.Lists.{first_of, over_steps}
 use Rattle.history.specs.Pass.{next_image, now_added, now_removed, now_counts, exceeds, with_next, changed_job, stable_job, changing, pass_loaded, pass_ready, pass_of}
@@ -41,11 +42,11 @@ use Rattle.seq.specs.Tab.{tab}
 
 -- the ways that a pass goes: with the mark it alters nothing; else the new image differs, or it does not
 pub data Turn (s : State) (e : Entry) : Type 0 where
-  resting : e.settled ≡ true → pass_of s ≡ record { answer = answer.Stable; state = s } → Turn s e
+  resting : e.settled ≡ true → pass_of s ≡ record { answer = (Ok Stable); state = s } → Turn s e
   changes : e.settled ≡ false → differs e.last (next_of e) ≡ true
-      → pass_of s ≡ record { answer = answer.Changed; state = with_next (changed_job s) s } → Turn s e
+      → pass_of s ≡ record { answer = (Ok Changed); state = with_next (changed_job s) s } → Turn s e
   quiet : e.settled ≡ false → differs e.last (next_of e) ≡ false
-      → pass_of s ≡ record { answer = answer.Stable; state = with_next (stable_job s) s } → Turn s e
+      → pass_of s ≡ record { answer = (Ok Stable); state = with_next (stable_job s) s } → Turn s e
 
 module _ {s : State} {e : Entry} {n : ℕ} (r : Held s e n) where
   -- the new image and the new record are those that the entry says

@@ -12,6 +12,7 @@
 --     kept_unread, opened_unread     reserves past the channels are unread
 --     kept_again, opened_again       a quota that was opened keeps its reserves, and opened again is as it was
 -- Assumes nothing.
+use Rattle.std.specs.Prelude.{Ok}
 use mathlib.Core.Bool.{Bool, true, false, cond, not, ◌&&◌, ◌||◌}
 use mathlib.Core.List.{List}
 use mathlib.Core.Logic.{⊎_elim, ◌≢◌}
@@ -26,10 +27,10 @@ use Rattle.history.specs.declared.Quota.{Quota}
 use Rattle.history.specs.Quota.{max_channels, kept, open_verdict, open_quota, lacks, channel_rule, left_of, available, charged, charged_for}
 use Rattle.image.specs.Size.{within}
 use Rattle.seq.specs.Lists.{sum_of}
+use Rattle.verdict.specs.declared.Rule.TheVariants as why
 use Rattle.seq.proofs.Lists.{either, sum_of_set}
 use Rattle.seq.proofs.Tab.{tab_ext}
 use Rattle.seq.proofs.Tests.{between, or_none_left, or_none_right}
-use Rattle.verdict.specs.declared.Verdict.TheVariants.{Accepted}
 use Rattle.verdict.proofs.Rules.{refuse_if_accepted}
 
 place_inside : (l : List ℕ) (k : ℕ) → 0 < get_or l k 0 → k < length l
@@ -76,10 +77,10 @@ available_charged_for (suc n) q i l =
     omega arith
 
 -- from 1 to the channels, at most four
-pub rule_range : (q : Quota) (i : ℕ) → channel_rule q i ≡ Accepted → (1 ≤ i) × (i ≤ q.channels) × (q.channels ≤ max_channels)
+pub rule_range : (q : Quota) (i : ℕ) → channel_rule q i ≡ Ok tt → (1 ≤ i) × (i ≤ q.channels) × (q.channels ≤ max_channels)
 unfolding channel_rule lacks within
 rule_range q i e =
-    let bad : (ltb max_channels q.channels || not (leb 1 i && leb i q.channels)) ≡ false = refuse_if_accepted (lacks q i) 25 0 e in
+    let bad : (ltb max_channels q.channels || not (leb 1 i && leb i q.channels)) ≡ false = refuse_if_accepted (lacks q i) why.QuotaRange 0 e in
     let inside = between 1 i q.channels (not-false _ (or_none_right (ltb max_channels q.channels) _ bad)) in
     (inside.0, inside.1, ltb-false max_channels q.channels (or_none_left (ltb max_channels q.channels) _ bad))
 
@@ -136,7 +137,7 @@ total_charged_for (suc n) q i l =
     omega arith
 
 -- what opening an accepted quota gives
-pub opened_accepted : (q : Quota) → open_verdict q ≡ Accepted
+pub opened_accepted : (q : Quota) → open_verdict q ≡ Ok tt
     → open_quota q ≡ record { channels = q.channels; allowance = q.allowance; reserves = kept q; left = kept q; pool = q.allowance - sum_of (kept q) }
 unfolding open_quota
 opened_accepted q ok = rw ok
@@ -153,7 +154,7 @@ kept_unread q p c h =
 
 pub opened_unread : (q p : Quota) → q.channels ≡ p.channels → q.allowance ≡ p.allowance
     → ((k : ℕ) → k < q.channels → get_or q.reserves k 0 ≡ get_or p.reserves k 0)
-    → (open_verdict q ≡ open_verdict p) × (open_verdict q ≡ Accepted → open_quota q ≡ open_quota p)
+    → (open_verdict q ≡ open_verdict p) × (open_verdict q ≡ Ok tt → open_quota q ≡ open_quota p)
 unfolding open_verdict
 opened_unread q p c a h =
     let k = kept_unread q p c h in
@@ -171,7 +172,7 @@ kept_again q p c r =
     rw (c, r)
     (rw (cut_again (ltb 0 q.channels) (get_or q.reserves 0 0), cut_again (ltb 1 q.channels) (get_or q.reserves 1 0), cut_again (ltb 2 q.channels) (get_or q.reserves 2 0), cut_again (ltb 3 q.channels) (get_or q.reserves 3 0)))
 
-pub opened_again : (q p : Quota) → p.channels ≡ q.channels → p.allowance ≡ q.allowance → p.reserves ≡ kept q → open_verdict q ≡ Accepted
+pub opened_again : (q p : Quota) → p.channels ≡ q.channels → p.allowance ≡ q.allowance → p.reserves ≡ kept q → open_verdict q ≡ Ok tt
     → open_quota p ≡ open_quota q
 unfolding open_verdict
 opened_again q p c a r ok =
@@ -180,8 +181,8 @@ opened_again q p c a r ok =
     opened_accepted p (same ∙ ok) ∙ rw (k, c, a) (sym (opened_accepted q ok))
 
 -- the reserves are within the allowance
-pub opened_fits : (q : Quota) → open_verdict q ≡ Accepted → sum_of (kept q) ≤ q.allowance
+pub opened_fits : (q : Quota) → open_verdict q ≡ Ok tt → sum_of (kept q) ≤ q.allowance
 unfolding open_verdict
 opened_fits q ok =
-    let bad = refuse_if_accepted (not (within max_channels q.channels) || ltb q.allowance (sum_of (kept q))) 25 0 ok in
+    let bad = refuse_if_accepted (not (within max_channels q.channels) || ltb q.allowance (sum_of (kept q))) why.QuotaRange 0 ok in
     ltb-false q.allowance (sum_of (kept q)) (or_none_right (not (within max_channels q.channels)) _ bad)

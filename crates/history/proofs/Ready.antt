@@ -5,6 +5,7 @@
 --     ready_writable, ready_single       the writer of strips accepts its image, and of a single one the image writer does
 --     ready_changed, ready_stable        a changing pass leaves it ready, and so does a quiet one
 -- Assumes nothing.
+use Rattle.std.specs.Prelude.{Ok}
 use mathlib.Core.Bool.{true, false, not, ◌||◌}
 use mathlib.Core.List.{Memᴰ}
 use mathlib.Core.Logic.{⊎_elim}
@@ -17,6 +18,7 @@ use lib.Dec.{ltb, eqb, leb}
 use lib.ListN.{length}
 use lib.Seq.{length-take-le}
 use Rattle.operator.specs.Image.{IsImage}
+use Rattle.verdict.specs.declared.Rule.TheVariants as why
 use Rattle.operator.proofs.Operator.{pass_image}
 use Rattle.history.specs.Pass.{next_image, exceeds, with_next, changed_job, stable_job}
 use Rattle.history.specs.State.{State, pixels, even, present, image, bad_parts, inconsistent, unsound, sound_rule, loaded_rule, ready_verdict}
@@ -30,7 +32,6 @@ use Rattle.seq.specs.Lists.{any}
 use Rattle.seq.proofs.Lists.{clash, either, any_intro, all_intro, not_true_false}
 use Rattle.seq.proofs.Tests.{or_none_left, or_none_right}
 use Rattle.table.specs.Record.{record_verdict}
-use Rattle.verdict.specs.declared.Verdict.TheVariants.{Accepted}
 use Rattle.verdict.specs.Rules.{is_accepted}
 use Rattle.verdict.proofs.Rules.{or_else_left, or_else_right, refuse_if_accepted}
 
@@ -55,15 +56,15 @@ consistent_ready s high low e =
       counts = ltb-false _ _ (or_none_right (ltb (pixels s.job) s.job.passes) _ e₄);
     }
 
-pub accepted_ready : (s : State) → ready_verdict s ≡ Accepted → Ready s
+pub accepted_ready : (s : State) → ready_verdict s ≡ Ok tt → Ready s
 unfolding ready_verdict unsound
 accepted_ready s e = consistent_ready s (or_none_left (ltb 2 s.job.stage) _ sound) begun (rw begun at (or_none_right (ltb 2 s.job.stage) _ sound))
   where
     sound : unsound s ≡ false
-    sound = refuse_if_accepted (unsound s) 14 0 (or_else_left (sound_rule s) _ e)
+    sound = refuse_if_accepted (unsound s) why.Unsound 0 (or_else_left (sound_rule s) _ e)
 
     begun : eqb s.job.stage 0 ≡ false
-    begun = refuse_if_accepted (eqb s.job.stage 0) 16 0 (or_else_left (loaded_rule s) Accepted (or_else_right (sound_rule s) _ e))
+    begun = refuse_if_accepted (eqb s.job.stage 0) why.NothingLoaded 0 (or_else_left (loaded_rule s) (Ok tt) (or_else_right (sound_rule s) _ e))
 
 module _ {s : State} (r : Ready s) where
   pub ready_sound : unsound s ≡ false
@@ -81,7 +82,7 @@ module _ {s : State} (r : Ready s) where
         le-ltb _ _ r.counts,
       )
 
-  pub ready_accepted : ready_verdict s ≡ Accepted
+  pub ready_accepted : ready_verdict s ≡ Ok tt
   unfolding ready_verdict
   ready_accepted = rw (ready_sound, ne_eqb s.job.stage 0 (λ z. omega (arith, r.begun)))
 
@@ -110,11 +111,11 @@ module _ {s : State} (r : Ready s) where
       low v m = le-leb v 1 (ltb-false 1 v (not_true_false (ltb 1 v) (λ e. clash (any_intro (ltb 1) m e) r.binary)))
 
   -- the writer of strips accepts it
-  pub ready_writable : strip_verdict s.job.strip (image s) ≡ Accepted
+  pub ready_writable : strip_verdict s.job.strip (image s) ≡ Ok tt
   ready_writable = strip_writable ready_parts.shape (subst₂ (λ w h. IsImage w h (image s)) ready_parts.width ready_parts.height ready_image)
 
   -- a single image is the one part of its strip
-  pub ready_single : s.job.strip.parts ≡ 1 → pixel_verdict s.job.width s.job.height (image s) ≡ Accepted
+  pub ready_single : s.job.strip.parts ≡ 1 → pixel_verdict s.job.width s.job.height (image s) ≡ Ok tt
   ready_single e = image_writable (good_sides ready_parts e) ready_image
 
   -- it has a pixel

@@ -6,13 +6,13 @@
 --     barred_refused, unaltered          and a call that is refused with nothing done alters nothing
 --     quota_back                         a quota that is handed back as it was
 -- Assumes nothing.
+use Rattle.std.specs.Prelude.{Ok, Err}
 use mathlib.Core.Bool.{Bool, true, false}
 use mathlib.Core.List.{[], ◌∷◌}
 use mathlib.Core.Logic.{◌⊎◌, inl, inr, ◌≢◌}
 use mathlib.Core.Path.{◌≡◌, refl, sym, ap, ◌∙◌, subst}
 use Prim.Native.Nat.{ℕ, ◌+◌, ◌*◌}
 use native.Mathlib.Numerals.{add-one}
-use Rattle.history.specs.declared.Passed.TheVariants as passing
 use Rattle.history.specs.declared.Quota.{Quota}
 use Rattle.history.specs.Answered.{rest_if, rest_as, figures_by, answered_by}
 use Rattle.history.specs.Call.{Call, load, pass, run, view, figures, collect, channel_pass, channel_run, loaded, passed, answer_of, state_of, refusal_of}
@@ -27,6 +27,7 @@ use Rattle.history.specs.Quota.{channel_rule}
 use Rattle.history.specs.Run.{run_of}
 use Rattle.history.specs.State.{State, empty_job}
 use Rattle.history.specs.View.{view_of, figures_of}
+use Rattle.verdict.specs.declared.Rule.TheVariants as why
 use Rattle.history.proofs.Channel.{pass_told, run_told, empty_unmade}
 use Rattle.history.proofs.ChannelPasses.{unmade, channel_barred}
 use Rattle.history.proofs.ChannelRuns.{run_unmade}
@@ -40,16 +41,14 @@ use Rattle.history.proofs.Run.{pass_answer, run_answer, ran_settled}
 use Rattle.history.proofs.Runs.{run_refused}
 use Rattle.history.proofs.Sound.{ready_empty, ready_held}
 use Rattle.verdict.specs.declared.Refusal.{Refusal}
-use Rattle.verdict.specs.declared.Verdict.{Verdict}
-use Rattle.verdict.specs.declared.Verdict.TheVariants.{Accepted, Refused}
-use Rattle.verdict.specs.Rules.{refusal, judge}
+use Rattle.verdict.specs.Rules.{refusal, judge, Verdict}
 use Rattle.verdict.proofs.Rules.{refused_accepted, or_else_accepted}
 
 -- a pass on an empty job, and so a run, is refused by 16 and alters nothing
-pub pass_empty : (s : State) → s.job ≡ empty_job → pass_of s ≡ record { answer = passing.Refused (refusal 16 0); state = s }
+pub pass_empty : (s : State) → s.job ≡ empty_job → pass_of s ≡ record { answer = Err (refusal why.NothingLoaded 0); state = s }
 pass_empty s q = pass_refused s (ready_empty s q)
 
-pub run_empty : (s : State) → s.job ≡ empty_job → run_of s ≡ record { answer = passing.Refused (refusal 16 0); state = s }
+pub run_empty : (s : State) → s.job ≡ empty_job → run_of s ≡ record { answer = Err (refusal why.NothingLoaded 0); state = s }
 run_empty s q = run_refused s (ready_empty s q)
 
 answered_empty : (c : Call) (s : State) → s.job ≡ empty_job → answer_of c s ≡ answered_by c (lengths_of s) empty
@@ -73,10 +72,10 @@ module _ {s : State} {e : Entry} {n : ℕ} (r : Held s e n) where
 
   channel_answered : (c : Quota) (i : ℕ) (v : Verdict) → channel_rule c i ≡ v → PassAnswered c i v × RunAnswered c i v
   unfolding book.ran
-  channel_answered c i (Refused x) k =
+  channel_answered c i (Err x) k =
       let p = channel_barred c i s k in
       (ap (λ (o : ChannelOutcome). o.answer) p, ap (λ (o : ChannelOutcome). o.answer) (run_unmade c i s p))
-  channel_answered c i Accepted k = (
+  channel_answered c i (Ok _) k = (
     ap (λ (o : ChannelOutcome). o.answer) (pass_told c i k r)
         ∙ ap (λ (v : Verdict). rest_as v (book.passed e).settled) (sym (or_else_accepted (spent_rule c i (needed 1 e)))),
     ap (λ (o : ChannelOutcome). o.answer) (run_told c i k r)
@@ -100,13 +99,13 @@ answered c s empty n q = answered_empty c s q
 answered c s (holds e) n r = answered_held r c
 
 -- the answer holds the refusal that the history gives
-no_refusal : (b : Bool) → refusal_of (passed (rest_if b)) ≡ Accepted
+no_refusal : (b : Bool) → refusal_of (passed (rest_if b)) ≡ Ok tt
 no_refusal true = refl
 no_refusal false = refl
 
 rest_refusal : (v : Verdict) (b : Bool) → refusal_of (passed (rest_as v b)) ≡ v
-rest_refusal Accepted b = no_refusal b
-rest_refusal (Refused x) b = refl
+rest_refusal (Ok _) b = no_refusal b
+rest_refusal (Err x) b = refl
 
 refused_by_lem : (c : Call) (n : Lengths) (H : History) → refusal_of (answered_by c n H) ≡ refused_by c n H
 unfolding answered_by refused_by figures_by
@@ -130,7 +129,7 @@ pub refused : (c : Call) (s : State) (H : History) (n : ℕ) → RelatedTo s H n
 refused c s H n r = ap refusal_of (answered c s H n r) ∙ refused_by_lem c (lengths_of s) H
 
 -- a call that is refused with nothing done is refused
-barred_refused : (c : Call) (n : Lengths) (H : History) (r : Refusal) → barred_by c n H ≡ Refused r → refused_by c n H ≡ Refused r
+barred_refused : (c : Call) (n : Lengths) (H : History) (r : Refusal) → barred_by c n H ≡ Err r → refused_by c n H ≡ Err r
 unfolding barred_by refused_by
 barred_refused (load t x) n H r b = b
 barred_refused pass n H r b = b
@@ -143,22 +142,22 @@ barred_refused (channel_run c i) n empty r b = b
 barred_refused (channel_run c i) n (holds e) r b = rw b
 
 -- a run on a job that holds an entry is not refused, and on an empty job it alters nothing
-unaltered_run : (s : State) (H : History) (n : ℕ) (r : Refusal) → RelatedTo s H n → refused_by run (lengths_of s) H ≡ Refused r → state_of run s ≡ s
+unaltered_run : (s : State) (H : History) (n : ℕ) (r : Refusal) → RelatedTo s H n → refused_by run (lengths_of s) H ≡ Err r → state_of run s ≡ s
 unfolding state_of refused_by
 unaltered_run s empty n r h q = ap (λ (o : Outcome). o.state) (run_empty s h)
 unaltered_run s (holds e) n r h q = refused_accepted q refl
 
 -- a channel's run that 25 or 16 refuses alters nothing
 unaltered_channel : (c : Quota) (i : ℕ) (s : State) (H : History) (n : ℕ) (r : Refusal) → RelatedTo s H n
-    → barred_by (channel_run c i) (lengths_of s) H ≡ Refused r → state_of (channel_run c i) s ≡ s
+    → barred_by (channel_run c i) (lengths_of s) H ≡ Err r → state_of (channel_run c i) s ≡ s
 unfolding state_of barred_by
 unaltered_channel c i s empty n r h b = let (x, e, p) = empty_unmade c i s h in ap (λ (o : ChannelOutcome). o.state) (run_unmade c i s p)
 unaltered_channel c i s (holds e) n r h b = ap (λ (o : ChannelOutcome). o.state) (run_unmade c i s (channel_barred c i s b))
 
-pub unaltered : (c : Call) (s : State) (H : History) (n : ℕ) (r : Refusal) → RelatedTo s H n → barred_by c (lengths_of s) H ≡ Refused r → state_of c s ≡ s
+pub unaltered : (c : Call) (s : State) (H : History) (n : ℕ) (r : Refusal) → RelatedTo s H n → barred_by c (lengths_of s) H ≡ Err r → state_of c s ≡ s
 unaltered c s H n r h b = by c b (refused c s H n h ∙ barred_refused c (lengths_of s) H r b)
   where
-    by : (c : Call) → barred_by c (lengths_of s) H ≡ Refused r → refusal_of (answer_of c s) ≡ Refused r → state_of c s ≡ s
+    by : (c : Call) → barred_by c (lengths_of s) H ≡ Err r → refusal_of (answer_of c s) ≡ Err r → state_of c s ≡ s
     by (load t x) b q = refusals.unaltered s (load t x) refl q
     by pass b q = refusals.unaltered s pass refl q
     by run b q = unaltered_run s H n r h (barred_refused run (lengths_of s) H r b)
@@ -172,10 +171,10 @@ unaltered c s H n r h b = by c b (refused c s H n h ∙ barred_refused c (length
 unmade_back : (c : Quota) (i : ℕ) (s : State) {r : Refusal} → channel_pass_of c i s ≡ unmade r s c → QuotaBack c i s
 unmade_back c i s p = (ap (λ (o : ChannelOutcome). o.quota) p, ap (λ (o : ChannelOutcome). o.quota) (run_unmade c i s p))
 
-pub quota_back : (c : Quota) (i : ℕ) (s : State) (H : History) (n : ℕ) → RelatedTo s H n → (H ≡ empty) ⊎ (channel_rule c i ≢ Accepted) → QuotaBack c i s
+pub quota_back : (c : Quota) (i : ℕ) (s : State) (H : History) (n : ℕ) → RelatedTo s H n → (H ≡ empty) ⊎ (channel_rule c i ≢ Ok tt) → QuotaBack c i s
 quota_back c i s H n h (inl e) = unmade_back c i s (empty_unmade c i s (subst (λ (K : History). RelatedTo s K n) e h)).2
 quota_back c i s H n h (inr bad) = by (channel_rule c i) refl
   where
     by : (v : Verdict) → channel_rule c i ≡ v → QuotaBack c i s
-    by Accepted e = absurd (bad e)
-    by (Refused r) e = unmade_back c i s (channel_barred c i s e)
+    by (Ok _) e = absurd (bad e)
+    by (Err r) e = unmade_back c i s (channel_barred c i s e)

@@ -6,6 +6,7 @@
 --     Related w          the relation, after any list of calls
 --     stage_of_lem, stage_one, stage_two     the stage of a record that holds an entry tells whether the mark stands
 -- Assumes nothing.
+use Rattle.std.specs.Prelude.{Ok}
 use mathlib.Core.Bool.{Bool, true, false, cond}
 use mathlib.Core.Path.{◌≡◌, refl, ap}
 use Prim.Native.Nat.{ℕ, ◌*◌, ◌≤◌}
@@ -25,7 +26,6 @@ use Rattle.image.specs.Strip.{max_parts, strip_of}
 use Rattle.operator.specs.Parts.{added_in, removed_in}
 use Rattle.seq.specs.Tab.{tab}
 use Rattle.table.specs.Record.{record_verdict}
-use Rattle.verdict.specs.declared.Verdict.TheVariants.{Accepted}
 
 -- stage 2 with the mark, else 1
 abbrev pub stage_of : Bool → ℕ
@@ -56,7 +56,7 @@ job_of e =
 pub record Held (s : State) (e : Entry) (n : ℕ) : Type 0 where
   pub job : s.job ≡ job_of e
   -- the table was accepted, and the parts are as 14 wants them
-  pub accepted : record_verdict e.table ≡ Accepted
+  pub accepted : record_verdict e.table ≡ Ok tt
   pub parts : GoodParts (job_of e)
   pub listed : Listed e.width e.parts
   pub first_long : e.width * e.height ≤ length s.first

@@ -5,6 +5,7 @@
 --     Again e x, again_file, again_strip  a source of the last image: the file of a single one, and the parts of any
 --     reloads, relaid                     the claims
 -- Assumes nothing.
+use Rattle.std.specs.Prelude.{Ok, Err}
 use mathlib.Core.Bool.{Bool, true, false, cond, not, ◌&&◌}
 use mathlib.Core.List.{List, [], ◌∷◌}
 use mathlib.Core.Path.{◌≡◌, refl, sym, ap, ◌∙◌, subst}
@@ -24,6 +25,7 @@ use Rattle.history.specs.Lists.{Course, lengths_of, tallied, step, play, uncolle
 use Rattle.history.specs.Quota.{channel_rule}
 use Rattle.history.specs.Source.{Source, from_file, from_strip, source_verdict, source_width, source_height, source_pixels}
 use Rattle.history.specs.State.{State, empty_job}
+use Rattle.verdict.specs.declared.Rule.TheVariants as why
 use Rattle.history.proofs.After.{held}
 use Rattle.history.proofs.Channel.{plays_passes, channel_as_passes}
 use Rattle.history.proofs.Collect.{collect_held}
@@ -44,10 +46,7 @@ use Rattle.image.specs.File.{image_bytes}
 use Rattle.image.specs.Strip.{strip_bytes, strip_of}
 use Rattle.seq.specs.Lists.{sum_of}
 use Rattle.seq.proofs.Lists.{clash, and_left, and_right}
-use Rattle.verdict.specs.declared.Verdict.{Verdict}
-use Rattle.verdict.specs.declared.Verdict.TheVariants.{Accepted, Refused}
-use Rattle.verdict.specs.declared.Written.TheVariants as written
-use Rattle.verdict.specs.Rules.{is_accepted}
+use Rattle.verdict.specs.Rules.{is_accepted, Verdict}
 use Rattle.verdict.specs.Writer.{over, written_of, output_of}
 use Rattle.verdict.proofs.Rules.{or_else_left, refuse_if_accepted}
 use Rattle.verdict.proofs.Writer.{take_over}
@@ -109,18 +108,18 @@ keeps_call figures {s} {e} r u = record { entry = e; held_by = refl; like = same
 keeps_call (collect out) {s} {e} {n} r u = record { entry = e; held_by = by (refused_by (collect out) (lengths_of s) (holds e)) refl; like = same e }
   where
     by : (v : Verdict) → refused_by (collect out) (lengths_of s) (holds e) ≡ v → after_as v (collect out) (holds e) ≡ holds e
-    by (Refused x) q = refl
-    by Accepted q = clash u (ap (λ (v : Verdict). not (is_accepted v)) (refused (collect out) s (holds e) n r ∙ q))
+    by (Err x) q = refl
+    by (Ok _) q = clash u (ap (λ (v : Verdict). not (is_accepted v)) (refused (collect out) s (holds e) n r ∙ q))
 keeps_call (channel_pass c i) {s} {e} {n} r u = by (channel_rule c i) refl
   where
     by : (v : Verdict) → channel_rule c i ≡ v → Keeps e (step (channel_pass c i) (course s e n))
-    by Accepted k = kept_for (made 1 c i e) r (channel_as_passes c i k r).pass_singly
-    by (Refused x) k = record { entry = e; held_by = rw k; like = same e }
+    by (Ok _) k = kept_for (made 1 c i e) r (channel_as_passes c i k r).pass_singly
+    by (Err x) k = record { entry = e; held_by = rw k; like = same e }
 keeps_call (channel_run c i) {s} {e} {n} r u = by (channel_rule c i) refl
   where
     by : (v : Verdict) → channel_rule c i ≡ v → Keeps e (step (channel_run c i) (course s e n))
-    by Accepted k = kept_for (made (e.width * e.height + 1) c i e) r (channel_as_passes c i k r).run_singly
-    by (Refused x) k = record { entry = e; held_by = rw k; like = same e }
+    by (Ok _) k = kept_for (made (e.width * e.height + 1) c i e) r (channel_as_passes c i k r).run_singly
+    by (Err x) k = record { entry = e; held_by = rw k; like = same e }
 
 keeps_play : (cs : List Call) (w : Course) (e : Entry) → Related w → Keeps e w → uncollected cs w ≡ true → Keeps e (play cs w)
 keeps_play [] w e r k u = k
@@ -137,13 +136,13 @@ keeps_play (c ∷ cs) w e r k u =
         record { entry = x.entry; held_by = ap (λ (v : Course). (step c v).history) (sym same_course) ∙ x.held_by; like = then k.like x.like }
 
 -- what a writer's answer says of its verdict
-pub by_answer : (v : Verdict) (bytes out : List ℕ) {m : ℕ} {after : List ℕ} → collected (written_of v bytes) (output_of v bytes out) ≡ collected (written.Length m) after
-    → (v ≡ Accepted) × (take m after ≡ bytes)
-by_answer Accepted bytes out {m} {after} q =
+pub by_answer : (v : Verdict) (bytes out : List ℕ) {m : ℕ} {after : List ℕ} → collected (written_of v bytes) (output_of v bytes out) ≡ collected (Ok m) after
+    → (v ≡ Ok tt) × (take m after ≡ bytes)
+by_answer (Ok tt) bytes out {m} {after} q =
     let n : length bytes ≡ m = cc in
     let o : over bytes out ≡ after = cc in
     (refl, ap (take m) (sym o) ∙ take_over bytes out m n)
-by_answer (Refused x) bytes out q = absurd (let z : ◌≡◌ {A = ℕ} 0 1 = cc in omega arith)
+by_answer (Err x) bytes out q = absurd (let z : ◌≡◌ {A = ℕ} 0 1 = cc in omega arith)
 
 -- a list of one
 single : (l : List ℕ) → length l ≡ 1 → (a : ℕ) × (l ≡ a ∷ [])
@@ -153,7 +152,7 @@ single (a ∷ b ∷ l) e = absurd (omega arith)
 
 -- a source whose image is the last one of an entry, loaded with its table
 record Again (e : Entry) (x : Source) : Type 0 where
-  accepted : source_verdict x ≡ Accepted
+  accepted : source_verdict x ≡ Ok tt
   width : source_width x ≡ e.width
   height : source_height x ≡ e.height
   pixels : source_pixels x ≡ e.last
@@ -184,10 +183,10 @@ module _ {s : State} {e : Entry} {n : ℕ} (r : Held s e n) where
       rows : e.height ≡ sum_of e.parts
       rows = r.parts.height ∙ ap sum_of (of_heights r.listed)
 
-  module _ (out : List ℕ) (ok : refused_by (collect out) (lengths_of s) (holds e) ≡ Accepted) where
+  module _ (out : List ℕ) (ok : refused_by (collect out) (lengths_of s) (holds e) ≡ Ok tt) where
     settled : e.settled ≡ true
     unfolding refused_by
-    settled = not-false e.settled (refuse_if_accepted (not e.settled) 17 0 (or_else_left _ _ ok))
+    settled = not-false e.settled (refuse_if_accepted (not e.settled) why.NotStable 0 (or_else_left _ _ ok))
 
     -- record and areas after the collect
     abbrev left : State
@@ -217,11 +216,11 @@ module _ {s : State} {e : Entry} {n : ℕ} (r : Held s e n) where
       anew = entered e.table x
 
       -- so the load is accepted
-      fitting : refused_by again (lengths_of s) empty ≡ Accepted
+      fitting : refused_by again (lengths_of s) empty ≡ Ok tt
       unfolding refused_by lengths_of
       fitting = rw (r.accepted, a.accepted, a.width, a.height, le-ltb _ _ r.first_long, le-ltb _ _ r.second_long)
 
-      admitted : refused_by again (lengths_of left) empty ≡ Accepted
+      admitted : refused_by again (lengths_of left) empty ≡ Ok tt
       admitted = ap (λ (k : Lengths). refused_by again k empty) room ∙ fitting
 
       -- the history then holds an entry whose first image is the last one, which is stable
@@ -252,12 +251,12 @@ module _ {s : State} {e : Entry} {n : ℕ} (r : Held s e n) where
 
 -- after an accepted collect
 module _ (w : Course) (r : Related w) (e : Entry) (q : w.history ≡ holds e) (out : List ℕ) {m : ℕ} {after : List ℕ}
-    (a : answer_of (collect out) w.state ≡ collected (written.Length m) after) where
+    (a : answer_of (collect out) w.state ≡ collected (Ok m) after) where
   here : Held w.state e w.tally
   here = held w r e q
 
   -- what was written
-  wrote : (refused_by (collect out) (lengths_of w.state) (holds e) ≡ Accepted) × (take m after ≡ files_of e)
+  wrote : (refused_by (collect out) (lengths_of w.state) (holds e) ≡ Ok tt) × (take m after ≡ files_of e)
   unfolding answered_by
   wrote = by_answer (refused_by (collect out) (lengths_of w.state) (holds e)) (files_of e) out (sym (answered (collect out) w.state (holds e) w.tally here) ∙ a)
 

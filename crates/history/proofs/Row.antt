@@ -6,6 +6,7 @@
 --     row_stable                  from a stable image there is no step
 --     row_image, row_bound, row_changes_lem, row_single, row_balance     the filter's claims, said of the row
 -- Assumes nothing.
+use Rattle.std.specs.Prelude.{Ok}
 use mathlib.Core.Bool.{Bool, true, false}
 use mathlib.Core.List.{List, [], ◌∷◌}
 use mathlib.Core.Logic.{⊎_elim}
@@ -26,7 +27,6 @@ use Rattle.seq.proofs.Lists.{clash, either}
 use Rattle.seq.proofs.Tab.{count_up_to}
 use Rattle.table.specs.declared.Table.{Table}
 use Rattle.table.specs.Record.{record_verdict}
-use Rattle.verdict.specs.declared.Verdict.TheVariants.{Accepted}
 
 pub data Row (t : Table) (w h : ℕ) : List ℕ → List (List ℕ) → Type 0 where
   alone : {img : List ℕ} → Row t w h img []
@@ -73,7 +73,7 @@ module _ {t : Table} {w h : ℕ} where
       omega (arith, count_up_to (λ i. differs (passes t w h i first) (passes t w h (suc i) first)) (length earlier), row_changing r, ap one here)
 
   -- every image of a row from a stable one is that one, so there is no step
-  pub row_stable : record_verdict t ≡ Accepted → {img : List ℕ} {earlier : List (List ℕ)} → Row t w h img earlier
+  pub row_stable : record_verdict t ≡ Ok tt → {img : List ℕ} {earlier : List (List ℕ)} → Row t w h img earlier
       → Stable t w h (oldest img earlier) → earlier ≡ []
   row_stable ok alone s = refl
   row_stable ok (next {img = img} {before = before} {earlier = earlier} e d r) s =
@@ -88,7 +88,7 @@ module _ {t : Table} {w h : ℕ} where
       img_first : img ≡ oldest before earlier
       img_first = sym (row_passes_lem (next e d r)) ∙ stays (suc (length earlier))
 
-module _ {t : Table} {w h : ℕ} {img : List ℕ} {earlier : List (List ℕ)} (ok : record_verdict t ≡ Accepted)
+module _ {t : Table} {w h : ℕ} {img : List ℕ} {earlier : List (List ℕ)} (ok : record_verdict t ≡ Ok tt)
     (r : Row t w h img earlier) (i : IsImage w h (oldest img earlier)) where
   -- every image of a row is an image, if the first is
   pub row_image : IsImage w h img
@@ -109,7 +109,7 @@ module _ {t : Table} {w h : ℕ} {img : List ℕ} {earlier : List (List ℕ)} (o
       (total_one (λ n. differs_at (passes t w h n first) (passes t w h (suc n) first) k) (single_change t w h first ok i k)
       (length earlier))
 
-module _ {t : Table} {w h : ℕ} (ok : record_verdict t ≡ Accepted) where
+module _ {t : Table} {w h : ℕ} (ok : record_verdict t ≡ Ok tt) where
   -- black in the last and removed over all steps is black in the first and added, step by step
   pub row_balance : {img : List ℕ} {earlier : List (List ℕ)} → Row t w h img earlier → IsImage w h (oldest img earlier)
       → black img + sum_steps removed img earlier ≡ black (oldest img earlier) + sum_steps added img earlier

@@ -9,15 +9,16 @@
 --     run_rests                         a run of at most one pass more than there are pixels answers "at rest", and sets the mark
 --     run_answer, ran_settled, run_as_passes     so does every run; and it is its passes called singly
 -- Assumes nothing.
+use Rattle.std.specs.Prelude.{Ok}
 use mathlib.Core.Bool.{Bool, true, false, cond}
 use mathlib.Core.Path.{◌≡◌, refl, sym, ap, ◌∙◌, subst⁻¹}
 use Prim.Native.Nat.{ℕ, zero, suc, ◌+◌, ◌*◌, ◌≤◌}
 use native.Mathlib.Numerals.{add-one}
 use native.Mathlib.Omega.{arith}
 use lib.ListN.{length, replicate}
+use Rattle.history.specs.declared.Effect.TheVariants.{Changed, Stable}
 use Rattle.operator.specs.Image.{differs}
 use Rattle.history.specs.declared.Job.{Job}
-use Rattle.history.specs.declared.Passed.TheVariants as passing
 use Rattle.history.specs.Answered.{rest_if}
 use Rattle.history.specs.Call.{pass, run, answer_of, state_of}
 use Rattle.history.specs.Call as calls
@@ -38,7 +39,7 @@ unfolding run_for
 run_once s = refl
 
 -- a first pass that answers "at rest" is the run
-run_stops : (m : ℕ) (s : State) → (pass_of s).answer ≡ passing.Stable → run_for (suc m) s ≡ pass_of s
+run_stops : (m : ℕ) (s : State) → (pass_of s).answer ≡ Ok Stable → run_for (suc m) s ≡ pass_of s
 run_stops m s q = run_ends (suc m) s (λ e. let z : ◌≡◌ {A = ℕ} 0 1 = cc in omega arith)
 
 -- a settled entry stays as it is
@@ -72,8 +73,8 @@ step_run s e n = refl
 
 -- how a run begins: its first pass is its last, or changes the image and leaves one pass less to make
 pub data Begins (s : State) (e : Entry) : Type 0 where
-  stops : (pass_of s).answer ≡ passing.Stable → (passed e).settled ≡ true → ((k : ℕ) → passes_of_run (suc k) e ≡ 1) → Begins s e
-  goes : (pass_of s).answer ≡ passing.Changed → passed e ≡ joined e → ((k : ℕ) → passes_of_run (suc k) e ≡ suc (passes_of_run k (passed e))) → Begins s e
+  stops : (pass_of s).answer ≡ Ok Stable → (passed e).settled ≡ true → ((k : ℕ) → passes_of_run (suc k) e ≡ 1) → Begins s e
+  goes : (pass_of s).answer ≡ Ok Changed → passed e ≡ joined e → ((k : ℕ) → passes_of_run (suc k) e ≡ suc (passes_of_run k (passed e))) → Begins s e
 
 pub begins : {s : State} {e : Entry} {n : ℕ} → Held s e n → Begins s e
 unfolding marked
@@ -126,7 +127,7 @@ run_plays (suc k) {s} {e} {n} r = go (begins r) (run_plays k (pass_held r))
 
 -- each pass but the last changes the image, and there are at most as many such passes as pixels: the last sets the mark
 abbrev Rested : ℕ → State → Entry → Type 0
-Rested k s e = ((run_for k s).answer ≡ passing.Stable) × ((passed_for (suc k) e).settled ≡ true)
+Rested k s e = ((run_for k s).answer ≡ Ok Stable) × ((passed_for (suc k) e).settled ≡ true)
 
 run_rests : (k : ℕ) {s : State} {e : Entry} {n : ℕ} → Held s e n → e.width * e.height ≤ k + length e.earlier → Rested k s e
 unfolding joined
@@ -149,7 +150,7 @@ module _ {s : State} {e : Entry} {n : ℕ} (r : Held s e n) where
   unfolding run_of
   run_of_lem = ap (λ (j : Job). run_for (pixels j) s) r.job
 
-  pub run_answer : (run_of s).answer ≡ passing.Stable
+  pub run_answer : (run_of s).answer ≡ Ok Stable
   run_answer = rw run_of_lem (run_rests (e.width * e.height) r (omega arith)).0
 
   -- the mark stands after a run

@@ -8,12 +8,13 @@
 --     goes_few                no more passes change pixels than there are pixels
 --     ends_at                 where it ends
 -- Assumes nothing.
+use Rattle.std.specs.Prelude.{Ok, Err}
 use mathlib.Core.Logic.{◌⊎◌, inl, inr, ⊎_elim}
 use mathlib.Core.Path.{◌≡◌, refl, sym, ap, ◌∙◌}
 use Prim.Native.Nat.{ℕ, zero, suc, ◌+◌, ◌≤◌, ◌<◌}
 use native.Mathlib.Omega.{arith}
-use Rattle.history.specs.declared.Passed.{Passed}
-use Rattle.history.specs.declared.Passed.TheVariants.{Changed, Stable, Refused}
+use Rattle.history.specs.Answers.{Passed, if_changed}
+use Rattle.history.specs.declared.Effect.TheVariants.{Changed, Stable}
 use Rattle.history.specs.Demand1.{after_passes, Goes, RunEnds}
 use Rattle.history.specs.Pass.{Outcome, pass_of}
 use Rattle.history.specs.Run.{run_for, run_of}
@@ -22,37 +23,36 @@ use Rattle.history.specs.State.{State, pixels, ready_verdict}
 use Rattle.history.proofs.Passes.{pass_refused, changed}
 use Rattle.seq.proofs.Tests.{lt_or_le}
 use Rattle.verdict.specs.declared.Refusal.{Refusal}
-use Rattle.verdict.specs.declared.Verdict.TheVariants as verdict
 
 -- what follows the first of several passes, by its answer
 abbrev pub after {ℓ} : {A : Type ℓ} → A → A → Passed → A
-after o rest a = elim a [ Changed ↦ rest | Stable ↦ o | Refused r ↦ o ]
+after o rest a = if_changed a rest o
 
-pub after_ends {ℓ} : {A : Type ℓ} (o rest : A) (a : Passed) → (a ≡ Changed → ⊥) → after o rest a ≡ o
-after_ends o rest Changed h = absurd (h refl)
-after_ends o rest Stable h = refl
-after_ends o rest (Refused r) h = refl
+pub after_ends {ℓ} : {A : Type ℓ} (o rest : A) (a : Passed) → (a ≡ Ok Changed → ⊥) → after o rest a ≡ o
+after_ends o rest (Ok Changed) h = absurd (h refl)
+after_ends o rest (Ok Stable) h = refl
+after_ends o rest (Err r) h = refl
 
 -- an answer is "changed", or it is not
-pub either_changed : (a : Passed) → (a ≡ Changed) ⊎ (a ≡ Changed → ⊥)
-either_changed Changed = inl refl
-either_changed Stable = inr (λ e. let z : ◌≡◌ {A = ℕ} 0 1 = cc in omega arith)
-either_changed (Refused r) = inr (λ e. let z : ◌≡◌ {A = ℕ} 0 1 = cc in omega arith)
+pub either_changed : (a : Passed) → (a ≡ Ok Changed) ⊎ (a ≡ Ok Changed → ⊥)
+either_changed (Ok Changed) = inl refl
+either_changed (Ok Stable) = inr (λ e. let z : ◌≡◌ {A = ℕ} 0 1 = cc in omega arith)
+either_changed (Err r) = inr (λ e. let z : ◌≡◌ {A = ℕ} 0 1 = cc in omega arith)
 
-pub run_ends : (n : ℕ) (s : State) → ((pass_of s).answer ≡ Changed → ⊥) → run_for n s ≡ pass_of s
+pub run_ends : (n : ℕ) (s : State) → ((pass_of s).answer ≡ Ok Changed → ⊥) → run_for n s ≡ pass_of s
 unfolding run_for
 run_ends zero s h = refl
 run_ends (suc n) s h = after_ends (pass_of s) (run_for n (pass_of s).state) (pass_of s).answer h
 
-pub run_goes : (n : ℕ) (s : State) → (pass_of s).answer ≡ Changed → run_for (suc n) s ≡ run_for n (pass_of s).state
+pub run_goes : (n : ℕ) (s : State) → (pass_of s).answer ≡ Ok Changed → run_for (suc n) s ≡ run_for n (pass_of s).state
 unfolding run_for
 run_goes n s e = ap (after (pass_of s) (run_for n (pass_of s).state)) e
 
-pub run_refused : (s : State) {r : Refusal} → ready_verdict s ≡ verdict.Refused r → run_of s ≡ record { answer = Refused r; state = s }
+pub run_refused : (s : State) {r : Refusal} → ready_verdict s ≡ Err r → run_of s ≡ record { answer = Err r; state = s }
 unfolding run_of
 run_refused s {r} e =
     let p = pass_refused s e in
-    run_ends (pixels s.job) s (λ q. let z : Refused r ≡ Changed = rw p at q in let y : ◌≡◌ {A = ℕ} 0 1 = cc in omega arith) ∙ p
+    run_ends (pixels s.job) s (λ q. let z : Err r ≡ (Ok Changed) = rw p at q in let y : ◌≡◌ {A = ℕ} 0 1 = cc in omega arith) ∙ p
 
 -- the passes after the first
 pub goes_next : (k : ℕ) (s : State) → Goes (suc k) s → Goes k (pass_of s).state
@@ -73,10 +73,10 @@ record EndsFor (n : ℕ) (s : State) : Type 0 where
   few : finished ≤ n
   goes : Goes finished s
   last : run_for n s ≡ pass_of (after_passes finished s)
-  ends : (run_for n s).answer ≡ Changed → ⊥
+  ends : (run_for n s).answer ≡ Ok Changed → ⊥
 
 -- a first pass that does not answer "changed" is the run
-ends_once : (n : ℕ) (s : State) → ((pass_of s).answer ≡ Changed → ⊥) → EndsFor n s
+ends_once : (n : ℕ) (s : State) → ((pass_of s).answer ≡ Ok Changed → ⊥) → EndsFor n s
 ends_once n s h = record {
   finished = 0;
   few = omega arith;
@@ -86,7 +86,7 @@ ends_once n s h = record {
 }
 
 -- a first pass that answers "changed" leaves the rest of the run
-ends_later : (n : ℕ) (s : State) → (pass_of s).answer ≡ Changed → EndsFor n (pass_of s).state → EndsFor (suc n) s
+ends_later : (n : ℕ) (s : State) → (pass_of s).answer ≡ Ok Changed → EndsFor n (pass_of s).state → EndsFor (suc n) s
 ends_later n s e x = record {
   finished = suc x.finished;
   few = omega (arith, x.few);
@@ -124,7 +124,7 @@ goes_few k s g = ⊎_elim late (λ l. omega (arith, (ends s).few)) (lt_or_le (en
     late l = absurd ((ends s).ends (ap (λ (o : Outcome). o.answer) (ends s).last ∙ g (ends s).finished l))
 
 -- a run ends at the first pass that does not answer "changed"
-pub ends_at : (k : ℕ) (s : State) → Goes k s → ((pass_of (after_passes k s)).answer ≡ Changed → ⊥) → run_of s ≡ pass_of (after_passes k s)
+pub ends_at : (k : ℕ) (s : State) → Goes k s → ((pass_of (after_passes k s)).answer ≡ Ok Changed → ⊥) → run_of s ≡ pass_of (after_passes k s)
 ends_at k s g h = ⊎_elim early late (lt_or_le k x.finished)
   where
     x : RunEnds s

@@ -2,6 +2,7 @@
 --     SameSource                    two sources that have these in common
 --     same_answer, same_course      a load from either gives the same answer, and the same record, areas, history and tally
 -- Assumes nothing.
+use Rattle.std.specs.Prelude.{Ok, Err}
 use mathlib.Core.Path.{◌≡◌, refl}
 use Rattle.history.specs.Call.{load, answer_of, state_of}
 use Rattle.history.specs.History.{History, empty, holds, Lengths, entered, refused_by, barred_by, accepted, after_as, after}
@@ -10,8 +11,7 @@ use Rattle.history.specs.Load.{load_verdict, loaded_job, load_as, load_state}
 use Rattle.history.specs.Source.{Source, source_verdict, source_width, source_height, source_parts, source_pixels}
 use Rattle.history.specs.State.{State}
 use Rattle.table.specs.declared.Table.{Table}
-use Rattle.verdict.specs.declared.Verdict.{Verdict}
-use Rattle.verdict.specs.declared.Verdict.TheVariants.{Accepted, Refused}
+use Rattle.verdict.specs.Rules.{Verdict}
 
 pub record SameSource (x y : Source) : Type 0 where
   pub verdict : source_verdict x ≡ source_verdict y
@@ -34,8 +34,8 @@ module _ {x y : Source} (same : SameSource x y) (t : Table) where
   same_state s = rw (same_verdict s) (by (load_verdict t y s))
     where
       by : (v : Verdict) → load_as v t x s ≡ load_as v t y s
-      by Accepted = rw (same.width, same.height, same.parts, same.pixels)
-      by (Refused r) = refl
+      by (Ok _) = rw (same.width, same.height, same.parts, same.pixels)
+      by (Err r) = refl
 
   same_refusal : (n : Lengths) (H : History) → refused_by (load t x) n H ≡ refused_by (load t y) n H
   unfolding refused_by
@@ -47,8 +47,8 @@ module _ {x y : Source} (same : SameSource x y) (t : Table) where
   same_history n H = rw (same_refusal n H) (by (refused_by (load t y) n H))
     where
       by : (v : Verdict) → after_as v (load t x) H ≡ after_as v (load t y) H
-      by Accepted = rw (same.width, same.height, same.parts, same.pixels)
-      by (Refused r) = refl
+      by (Ok _) = rw (same.width, same.height, same.parts, same.pixels)
+      by (Err r) = refl
 
   pub same_course : (w : Course) → step (load t x) w ≡ step (load t y) w
   unfolding step barred_by tallied
@@ -57,5 +57,5 @@ module _ {x y : Source} (same : SameSource x y) (t : Table) where
       rw (same_state w.state, same_history n w.history, same_refusal n w.history, by (refused_by (load t y) n w.history))
     where
       by : (v : Verdict) → tally_as v (load t x) w.history w.tally ≡ tally_as v (load t y) w.history w.tally
-      by Accepted = refl
-      by (Refused r) = refl
+      by (Ok _) = refl
+      by (Err r) = refl

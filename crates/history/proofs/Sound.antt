@@ -3,6 +3,7 @@
 --     sound_held, sound_empty      01's 14 does not hold
 --     ready_held, ready_empty      so pass, run, view and figures are accepted, or refused by 16
 -- Assumes nothing.
+use Rattle.std.specs.Prelude.{Ok, Err}
 use mathlib.Core.Bool.{Bool, true, false}
 use mathlib.Core.Path.{◌≡◌, refl}
 use Prim.Native.Nat.{ℕ, ◌≤◌}
@@ -11,12 +12,12 @@ use lib.Dec.{eqb}
 use Rattle.history.specs.History.{Entry}
 use Rattle.history.specs.Sound.{Ready}
 use Rattle.history.specs.State.{State, empty_job, nonzero, unsound, ready_verdict}
+use Rattle.verdict.specs.declared.Rule.TheVariants as why
 use Rattle.history.proofs.Images.{none_above}
 use Rattle.history.proofs.Parts.{good_parts}
 use Rattle.history.proofs.Ready.{ready_sound, ready_accepted}
 use Rattle.history.proofs.Related.{stage_of, job_of, Held}
 use Rattle.history.proofs.Row.{row_image, row_bound, row_changes_lem}
-use Rattle.verdict.specs.declared.Verdict.TheVariants.{Accepted, Refused}
 use Rattle.verdict.specs.Rules.{refusal}
 
 -- stage 1 and 2 are at least 1 and at most 2, and not 0
@@ -36,7 +37,7 @@ pub sound_empty : (s : State) → s.job ≡ empty_job → unsound s ≡ false
 unfolding unsound empty_job nonzero
 sound_empty s q = rw q
 
-pub ready_empty : (s : State) → s.job ≡ empty_job → ready_verdict s ≡ Refused (refusal 16 0)
+pub ready_empty : (s : State) → s.job ≡ empty_job → ready_verdict s ≡ Err (refusal why.NothingLoaded 0)
 unfolding ready_verdict empty_job
 ready_empty s q = rw (sound_empty s q, q)
 
@@ -57,5 +58,5 @@ module _ {s : State} {e : Entry} {n : ℕ} (r : Held s e n) where
   pub sound_held : unsound s ≡ false
   sound_held = ready_sound held_ready
 
-  pub ready_held : ready_verdict s ≡ Accepted
+  pub ready_held : ready_verdict s ≡ Ok tt
   ready_held = ready_accepted held_ready

@@ -9,6 +9,7 @@
 --     area_verdict x n                its rules, then 13 on an area of n bytes
 --     source_read_lem, source_area_lem       its reader answers by them, and fills the front of the area
 -- Assumes nothing.
+use Rattle.std.specs.Prelude.{Ok}
 use mathlib.Core.List.{List, [], ◌∷◌}
 use mathlib.Core.Path.{◌≡◌, refl}
 use Prim.Native.Nat.{ℕ, ◌*◌}
@@ -27,10 +28,8 @@ use Rattle.image.specs.Strip.{strip_read_verdict, strip_read, strip_area}
 use Rattle.operator.proofs.Majority.{majority_image}
 use Rattle.operator.specs.Image.{IsImage}
 use Rattle.seq.specs.Lists.{sum_of}
-use Rattle.verdict.specs.declared.Verdict.{Verdict}
-use Rattle.verdict.specs.declared.Verdict.TheVariants.{Accepted}
 use Rattle.verdict.specs.Numbers.{by, OneOf}
-use Rattle.verdict.specs.Rules.{or_else}
+use Rattle.verdict.specs.Rules.{or_else, Verdict}
 use Rattle.verdict.proofs.Numbers.{one_of_more}
 use Rattle.verdict.specs.Writer.{output_of}
 
@@ -39,7 +38,7 @@ pub record ThreeImages (f g h : List ℕ) : Type 0 where
   pub second : IsImage (width_of f) (height_of f) (image_of g)
   pub third : IsImage (width_of f) (height_of f) (image_of h)
 
-pub three_images : (f g h : List ℕ) → three_verdict f g h ≡ Accepted → ThreeImages f g h
+pub three_images : (f g h : List ℕ) → three_verdict f g h ≡ Ok tt → ThreeImages f g h
 three_images f g h e =
     let x = three_good f g h e in
     record {
@@ -53,19 +52,19 @@ source_parts_lem (from_file f) = omega arith
 source_parts_lem (from_three f g h) = omega arith
 source_parts_lem (from_strip p px) = refl
 
-pub source_listed : (x : Source) → source_verdict x ≡ Accepted → Listed (source_width x) (source_parts x)
+pub source_listed : (x : Source) → source_verdict x ≡ Ok tt → Listed (source_width x) (source_parts x)
 source_listed (from_file f) e = one_listed (accepted_file f e).within
 source_listed (from_three f g h) e = one_listed (accepted_file f (three_good f g h e).first).within
 source_listed (from_strip p px) e = shape_listed (strip_good p px e).shape
 
-pub source_image : (x : Source) → source_verdict x ≡ Accepted → IsImage (source_width x) (source_height x) (source_pixels x)
+pub source_image : (x : Source) → source_verdict x ≡ Ok tt → IsImage (source_width x) (source_height x) (source_pixels x)
 source_image (from_file f) e = file_image f e
 source_image (from_three f g h) e = let i = three_images f g h e in majority_image i.first i.second i.third
 source_image (from_strip p px) e =
     let g = strip_good p px e in
     record { wide = (shape_wide g.shape).0; high = (shape_rows g.shape).0; sized = g.bytes.count; binary = strip_binary g }
 
-pub source_length : (x : Source) → source_verdict x ≡ Accepted → length (source_pixels x) ≡ source_width x * source_height x
+pub source_length : (x : Source) → source_verdict x ≡ Ok tt → length (source_pixels x) ≡ source_width x * source_height x
 source_length x e = (source_image x e).sized
 
 -- 12 and 23 never come from files

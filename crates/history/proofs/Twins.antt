@@ -4,6 +4,7 @@
 --     shared             two such jobs have one
 --     exchanged, ordered, located, alone, rests     the claims
 -- Assumes nothing.
+use Rattle.std.specs.Prelude.{Ok}
 use mathlib.Core.Bool.{true}
 use mathlib.Core.List.{List, []}
 use mathlib.Core.Logic.{◌⊎◌, inl, inr}
@@ -11,6 +12,7 @@ use mathlib.Core.Path.{◌≡◌, sym, ap, ◌∙◌, subst₂}
 use Prim.Native.Nat.{ℕ, ◌+◌, ◌*◌, ◌<◌}
 use native.Mathlib.Omega.{arith}
 use lib.ListN.{length, get_or}
+use Rattle.history.specs.declared.Effect.TheVariants as effect
 use Rattle.operator.specs.Heijmans.{modified}
 use Rattle.operator.specs.Image.{pixel, IsImage, added, removed, exchange, Below}
 use Rattle.operator.specs.Locality.{reach, Alike, Inner}
@@ -21,7 +23,6 @@ use Rattle.operator.proofs.Heijmans.{all_heijmans}
 use Rattle.operator.proofs.Locality.{locality, part_alone}
 use Rattle.operator.proofs.Order.{order_passes}
 use Rattle.operator.proofs.Rest.{all_rest}
-use Rattle.history.specs.declared.Passed.TheVariants as rest
 use Rattle.history.specs.Call.{pass, passed, answer_of}
 use Rattle.history.specs.Demand3.{Twins, Alone, Rests}
 use Rattle.history.specs.History.{Entry}
@@ -133,5 +134,5 @@ rests {s} {e} r q = record {
     fixed : modified e.table e.width e.height (first_of e) ≡ first_of e
     fixed = sym (all_heijmans e.table e.width e.height (first_of e) r.accepted r.begun).pass_modified ∙ q
 
-    quiet : answer_of pass s ≡ passed rest.Stable
+    quiet : answer_of pass s ≡ passed (Ok effect.Stable)
     quiet = (operated_held r).reported.1 (rw (view_held r, last_first) fixed)

@@ -3,6 +3,7 @@
 --     sound_none                       where it does not hold, none does
 --     sound_ready                      a sound record that is not empty is ready
 -- Assumes nothing.
+use Rattle.std.specs.Prelude.{Ok, Err}
 use mathlib.Core.Bool.{Bool, true, false, cond, not, ◌&&◌, ◌||◌}
 use mathlib.Core.Logic.{◌⊎◌, inl, inr, ⊎_elim}
 use mathlib.Core.Path.{◌≡◌, refl, sym, ◌∙◌}
@@ -22,14 +23,12 @@ use Rattle.seq.specs.Lists.{any, all}
 use Rattle.seq.proofs.Lists.{clash, either, or_cases, any_intro, any_elim, all_elim, not_all}
 use Rattle.seq.proofs.Tests.{or_none_left, or_none_right}
 use Rattle.table.specs.Record.{record_verdict}
-use Rattle.verdict.specs.declared.Verdict.{Verdict}
-use Rattle.verdict.specs.declared.Verdict.TheVariants.{Accepted, Refused}
-use Rattle.verdict.specs.Rules.{is_accepted}
+use Rattle.verdict.specs.Rules.{is_accepted, Verdict}
 use Rattle.verdict.proofs.Rules.{refused_accepted}
 
-not_accepted : (v : Verdict) → not (is_accepted v) ≡ true → v ≡ Accepted → ⊥
-not_accepted Accepted e q = clash e refl
-not_accepted (Refused r) e q = refused_accepted refl q
+not_accepted : (v : Verdict) → not (is_accepted v) ≡ true → v ≡ Ok tt → ⊥
+not_accepted (Ok _) e q = clash e refl
+not_accepted (Err r) e q = refused_accepted refl q
 
 -- one of two does not hold
 not_and : (a b : Bool) → not (a && b) ≡ true → (a ≡ false) ⊎ (b ≡ false)

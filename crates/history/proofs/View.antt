@@ -4,18 +4,19 @@
 --     operated_ready            a pass on a sound record at stage 1 that is not refused
 --     operated_held             a pass on a job that holds an entry
 -- Assumes nothing.
+use Rattle.std.specs.Prelude.{Ok}
 use mathlib.Core.Bool.{true, false}
 use mathlib.Core.List.{List}
 use mathlib.Core.Logic.{inl, inr}
 use mathlib.Core.Path.{◌≡◌, refl, sym, ap, ◌∙◌, subst}
 use Prim.Native.Nat.{ℕ}
 use native.Mathlib.Omega.{arith}
+use Rattle.history.specs.declared.Effect.TheVariants.{Changed, Stable}
 use Rattle.operator.specs.Heijmans.{modified}
 use Rattle.operator.specs.Image.{differs}
 use Rattle.operator.proofs.Counts.{differs_equal, equal_differs}
 use Rattle.operator.proofs.Heijmans.{all_heijmans}
 use Rattle.history.specs.declared.Job.{Job}
-use Rattle.history.specs.declared.Passed.TheVariants as passing
 use Rattle.history.specs.Call.{pass, passed, answer_of, state_of, refusal_of}
 use Rattle.history.specs.Demand3.{Operated}
 use Rattle.history.specs.History.{Entry}
@@ -32,7 +33,6 @@ use Rattle.history.proofs.Ready.{ready_accepted, ready_image, ready_next, ready_
 use Rattle.history.proofs.Related.{Held}
 use Rattle.history.proofs.Sound.{held_ready}
 use Rattle.seq.proofs.Lists.{clash}
-use Rattle.verdict.specs.declared.Verdict.TheVariants.{Accepted}
 use Rattle.verdict.proofs.Rules.{refused_accepted}
 
 pub view_ready : (s : State) → Ready s → view_of s ≡ image s
@@ -43,7 +43,7 @@ pub view_held : {s : State} {e : Entry} {n : ℕ} → Held s e n → view_of s �
 view_held {s} r = view_ready s (held_ready r) ∙ r.shown
 
 -- an answer tells which of two it is
-changed_stable {ℓ} : {P : Type ℓ} → passed passing.Changed ≡ passed passing.Stable → P
+changed_stable {ℓ} : {P : Type ℓ} → passed (Ok Changed) ≡ passed (Ok Stable) → P
 changed_stable q = absurd (let z : ◌≡◌ {A = ℕ} 0 1 = cc in omega arith)
 
 module _ (s : State) {o : Outcome} (p : pass_of s ≡ o) where
@@ -67,7 +67,7 @@ module _ (s : State) (r : Ready s) where
       (all_heijmans s.job.table s.job.width s.job.height (image s) r.table (ready_image r)).pass_modified
       ∙ ap operator (sym (view_ready s r))
 
-  pub operated_ready : s.job.stage ≡ 1 → refusal_of (answer_of pass s) ≡ Accepted
+  pub operated_ready : s.job.stage ≡ 1 → refusal_of (answer_of pass s) ≡ Ok tt
       → Operated s.job.table s.job.width s.job.height s
   operated_ready z a = by (way s)
     where
@@ -100,7 +100,7 @@ module _ {s : State} {e : Entry} {n : ℕ} (r : Held s e n) where
       (sym (sym (all_heijmans e.table e.width e.height e.last r.accepted (last_image r)).pass_modified ∙ r.stable q))
 
   -- else the job is at stage 1, and its pass is not refused
-  loaded : e.settled ≡ false → refusal_of (answer_of pass s) ≡ Accepted → Operated e.table e.width e.height s
+  loaded : e.settled ≡ false → refusal_of (answer_of pass s) ≡ Ok tt → Operated e.table e.width e.height s
   loaded q a =
       subst (λ (j : Job). Operated j.table j.width j.height s) r.job (operated_ready s (held_ready r) (rw (r.job, q)) a)
 

@@ -1,5 +1,6 @@
 -- Every call that answers 5 or 7 passes on witness and position, proved (specs/Witness).
 -- Assumes nothing.
+use Rattle.std.specs.Prelude.{Ok, Err}
 use mathlib.Core.Bool.{true, false, not}
 use mathlib.Core.List.{List, [], ◌∷◌}
 use mathlib.Core.Path.{◌≡◌, refl, subst}
@@ -13,6 +14,7 @@ use Rattle.history.specs.Demand1.{state_numbers, placed}
 use Rattle.history.specs.Source.{Source, from_file, from_three, from_strip, source_verdict}
 use Rattle.history.specs.State.{State, unsound}
 use Rattle.history.specs.Witness.{PassedOn}
+use Rattle.verdict.specs.declared.Rule.TheVariants as why
 use Rattle.history.proofs.Refusals.{written_refusal, load_says}
 use Rattle.history.proofs.States.{given, only, by_state}
 use Rattle.image.proofs.Facts.{file_says}
@@ -22,10 +24,8 @@ use Rattle.table.proofs.Witness.{witnesses}
 use Rattle.table.specs.declared.Table.{Table}
 use Rattle.table.specs.Witness.{Neither, zeros, Witness, neither}
 use Rattle.verdict.specs.declared.Refusal.{Refusal}
-use Rattle.verdict.specs.declared.Verdict.{Verdict}
-use Rattle.verdict.specs.declared.Verdict.TheVariants.{Accepted, Refused}
 use Rattle.verdict.specs.Numbers.{Says, accepts, refuses, among, by}
-use Rattle.verdict.specs.Rules.{refusal}
+use Rattle.verdict.specs.Rules.{refusal, Verdict, number_of}
 use Rattle.verdict.proofs.Numbers.{says_if, says_or, says_more, one_of_passes}
 
 source_says : (x : Source) → Says Neither (source_verdict x)
@@ -39,26 +39,26 @@ load_witness t x s =
     load_says t x s (neither (zeros refl)) (neither (zeros refl)) (witnesses.of_record t) (says_more (λ r. neither) (source_says x)) (neither (zeros refl))
 
 -- a refusal because of the state or of the quota is its number and its place
-state_says : (c : Call) (s : State) (r : Refusal) → refusal_of (answer_of c s) ≡ Refused r → among state_numbers r.number ≡ true → Neither r
+state_says : (c : Call) (s : State) (r : Refusal) → refusal_of (answer_of c s) ≡ Err r → among state_numbers (number_of r) ≡ true → Neither r
 state_says c s r q m =
-    let again = given c s r.number (only c s r q m).0 in
-    let same : refusal r.number (placed c r.number) ≡ r = cc in
+    let again = given c s r.rule (only c s r q m).0 in
+    let same : refusal r.rule (placed c r.rule) ≡ r = cc in
     subst Neither same (zeros (not-true _ (one_of_passes {ns = state_numbers} (λ n. not (among (5 ∷ 7 ∷ []) n)) (refuses {r = r} (by m)) refl refl)))
 
 other_says : (c : Call) (s : State) → is_load c ≡ false → is_collect c ≡ false → Says Neither (refusal_of (answer_of c s))
 other_says c s a b = step (refusal_of (answer_of c s)) refl
   where
     step : (v : Verdict) → refusal_of (answer_of c s) ≡ v → Says Neither v
-    step Accepted q = accepts
-    step (Refused r) q = refuses (state_says c s r q (by_state c s r a b q))
+    step (Ok _) q = accepts
+    step (Err r) q = refuses (state_says c s r q (by_state c s r a b q))
 
 collect_says : (out : List ℕ) (s : State) → Says Neither (refusal_of (answer_of (collect out) s))
 unfolding answer_of collect_written collect_verdict
 collect_says out s =
     rw (written_refusal (collect_verdict (length out) s) (collected s))
-    (says_or (says_if (unsound s) 14 0 (zeros refl))
-    (says_or (says_if (eqb s.job.stage 0) 16 0 (zeros refl))
-    (says_or (says_if (eqb s.job.stage 1) 17 0 (zeros refl)) (says_or (says_if (ltb (length out) (length (collected s))) 13 0 (zeros refl)) accepts))))
+    (says_or (says_if (unsound s) why.Unsound 0 (zeros refl))
+    (says_or (says_if (eqb s.job.stage 0) why.NothingLoaded 0 (zeros refl))
+    (says_or (says_if (eqb s.job.stage 1) why.NotStable 0 (zeros refl)) (says_or (says_if (ltb (length out) (length (collected s))) why.AreaShort 0 (zeros refl)) accepts))))
 
 pub passed_on : PassedOn
 passed_on (load t x) s = load_witness t x s

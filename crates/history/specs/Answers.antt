@@ -1,35 +1,36 @@
 -- What pass, run and figures answer, in 01's terms; in a refused answer every value is zero.
---     passed_verdict a     what a pass or a run refuses by
+--     Passed               a pass or a run: what it did, or the refusal
 --     passed_stable a      1 for "at rest", 0 for "changed"
---     figured_verdict a    what figures refuses by
+--     if_changed a x y      x where the pass changed pixels, else y
+--     Figured              the figures, or the refusal
 --     figured_balance a, figured_cover a
 -- Assumes nothing.
-use Rattle.std.specs.Prelude.{ℕ, ℤ, pos}
-use Rattle.history.specs.declared.Figured.{Figured}
-use Rattle.history.specs.declared.Figured.TheVariants as figured
-use Rattle.history.specs.declared.Passed.{Passed}
-use Rattle.history.specs.declared.Passed.TheVariants as passed
-use Rattle.verdict.specs.declared.Verdict.{Verdict}
-use Rattle.verdict.specs.declared.Verdict.TheVariants.{Accepted, Refused}
+use Rattle.std.specs.Prelude.{ℕ, ℤ, pos, Ok, Err, Result}
+use Rattle.history.specs.declared.Effect.{Effect}
+use Rattle.history.specs.declared.Effect.TheVariants.{Changed, Stable}
+use Rattle.history.specs.declared.Figures.{Figures}
+use Rattle.verdict.specs.declared.Refusal.{Refusal}
 
-abbrev pub passed_verdict : Passed → Verdict
-passed_verdict passed.Changed = Accepted
-passed_verdict passed.Stable = Accepted
-passed_verdict (passed.Refused r) = Refused r
+abbrev pub Passed : Type 0
+Passed = Result Effect Refusal
 
 abbrev pub passed_stable : Passed → ℕ
-passed_stable passed.Changed = 0
-passed_stable passed.Stable = 1
-passed_stable (passed.Refused r) = 0
+passed_stable (Ok Changed) = 0
+passed_stable (Ok Stable) = 1
+passed_stable (Err r) = 0
 
-abbrev pub figured_verdict : Figured → Verdict
-figured_verdict (figured.Figures b c) = Accepted
-figured_verdict (figured.Refused r) = Refused r
+abbrev pub if_changed {ℓ} : {A : Type ℓ} → Passed → A → A → A
+if_changed (Ok Changed) x y = x
+if_changed (Ok Stable) x y = y
+if_changed (Err r) x y = y
+
+abbrev pub Figured : Type 0
+Figured = Result Figures Refusal
 
 abbrev pub figured_balance : Figured → ℤ
-figured_balance (figured.Figures b c) = b
-figured_balance (figured.Refused r) = pos 0
+figured_balance (Ok x) = x.balance
+figured_balance (Err r) = pos 0
 
 abbrev pub figured_cover : Figured → ℕ
-figured_cover (figured.Figures b c) = c
-figured_cover (figured.Refused r) = 0
+figured_cover (Ok x) = x.cover
+figured_cover (Err r) = 0

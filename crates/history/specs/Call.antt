@@ -6,13 +6,9 @@
 --     refusal_of a     accepted, or the refusal that an answer holds
 --     refusing c r    the answer of a call that is refused by r: all else is zero, and an output is as it was
 -- Assumes nothing.
-use Rattle.std.specs.Prelude.{Bool, true, false, List, [], ℕ, length}
-use Rattle.history.specs.declared.Figured.{Figured}
-use Rattle.history.specs.declared.Figured.TheVariants as figuring
-use Rattle.history.specs.declared.Passed.{Passed}
-use Rattle.history.specs.declared.Passed.TheVariants as passing
+use Rattle.std.specs.Prelude.{Bool, true, false, List, [], ℕ, length, Err}
 use Rattle.history.specs.declared.Quota.{Quota}
-use Rattle.history.specs.Answers.{passed_verdict, figured_verdict}
+use Rattle.history.specs.Answers.{Passed, Figured}
 use Rattle.history.specs.Channel.{channel_pass_of, channel_run_of}
 use Rattle.history.specs.Collect.{collect_written, collect_output, collect_state}
 use Rattle.history.specs.Load.{load_verdict, load_state}
@@ -22,12 +18,10 @@ use Rattle.history.specs.Source.{Source}
 use Rattle.history.specs.State.{State, ready_verdict}
 use Rattle.history.specs.View.{view_of, figures_of}
 use Rattle.table.specs.declared.Table.{Table}
+use Rattle.verdict.specs.Answers.{verdict_of}
 use Rattle.verdict.specs.declared.Refusal.{Refusal}
-use Rattle.verdict.specs.declared.Verdict.{Verdict}
-use Rattle.verdict.specs.declared.Verdict.TheVariants.{Refused}
-use Rattle.verdict.specs.declared.Written.{Written}
-use Rattle.verdict.specs.declared.Written.TheVariants as writing
-use Rattle.verdict.specs.Answers.{written_verdict}
+use Rattle.verdict.specs.Rules.{Verdict}
+use Rattle.verdict.specs.Writer.{Written}
 
 pub data Call : Type 0 where
   -- a table record, and what the image is taken from
@@ -99,17 +93,17 @@ state_of (channel_run q i) s = (channel_run_of q i s).state
 
 abbrev pub refusal_of : Answer → Verdict
 refusal_of (loaded v) = v
-refusal_of (passed a) = passed_verdict a
+refusal_of (passed a) = verdict_of a
 refusal_of (shown px v) = v
-refusal_of (figured a) = figured_verdict a
-refusal_of (collected a out) = written_verdict a
+refusal_of (figured a) = verdict_of a
+refusal_of (collected a out) = verdict_of a
 
 abbrev pub refusing : Call → Refusal → Answer
-refusing (load t x) r = loaded (Refused r)
-refusing pass r = passed (passing.Refused r)
-refusing run r = passed (passing.Refused r)
-refusing view r = shown [] (Refused r)
-refusing figures r = figured (figuring.Refused r)
-refusing (collect out) r = collected (writing.Refused r) out
-refusing (channel_pass q i) r = passed (passing.Refused r)
-refusing (channel_run q i) r = passed (passing.Refused r)
+refusing (load t x) r = loaded (Err r)
+refusing pass r = passed (Err r)
+refusing run r = passed (Err r)
+refusing view r = shown [] (Err r)
+refusing figures r = figured (Err r)
+refusing (collect out) r = collected (Err r) out
+refusing (channel_pass q i) r = passed (Err r)
+refusing (channel_run q i) r = passed (Err r)

@@ -42,10 +42,7 @@ use Rattle.seq.specs.Lists.{all, same_list}
 use Rattle.table.specs.declared.Table.{Table}
 use Rattle.table.specs.Record.{zero_table}
 use Rattle.table.specs.Sample.{filled, listed}
-use Rattle.verdict.specs.Answers.{said}
-use Rattle.verdict.specs.declared.Refusal.{Refusal}
-use Rattle.verdict.specs.declared.Verdict.TheVariants.{Refused}
-use Rattle.verdict.specs.Rules.{witnessed, refusal}
+use Rattle.verdict.specs.Answers.{said, Said, refused, refused_for}
 
 abbrev standing : History → ℕ
 standing empty = 0
@@ -165,18 +162,18 @@ held_with t =
       second = replicate 25 0;
     }
 
-abbrev pub bad_tables : List (Table × Refusal)
+abbrev pub bad_tables : List (Table × Said)
 bad_tables =
-    (listed (192 ∷ 320 ∷ 384 ∷ 2560 ∷ []) (12288 ∷ []), witnessed 5 4 1 0)
-    ∷ (listed (10244 ∷ 131204 ∷ []) (12288 ∷ 135168 ∷ []), witnessed 7 1 2 12)
-    ∷ (listed (141440 ∷ []) (12288 ∷ 12288 ∷ []), refusal 6 4)
+    (listed (192 ∷ 320 ∷ 384 ∷ 2560 ∷ []) (12288 ∷ []), refused_for 5 4 1 0)
+    ∷ (listed (10244 ∷ 131204 ∷ []) (12288 ∷ 135168 ∷ []), refused_for 7 1 2 12)
+    ∷ (listed (141440 ∷ []) (12288 ∷ 12288 ∷ []), refused 6 4)
     ∷ []
 
-pub loads_met : map (λ c. refusal_of (answer_of (load c.0 (from_file dot_file)) (empty_with zero_table))) bad_tables ≡ map (λ c. Refused c.1) bad_tables
+pub loads_met : map (λ c. said (refusal_of (answer_of (load c.0 (from_file dot_file)) (empty_with zero_table)))) bad_tables ≡ map (λ c. c.1) bad_tables
 unfolding computing
 loads_met = refl
 
-pub held_met : map (λ c. refusal_of (answer_of pass (held_with c.0))) bad_tables ≡ map (λ c. Refused (refusal 14 0)) bad_tables
+pub held_met : map (λ c. said (refusal_of (answer_of pass (held_with c.0)))) bad_tables ≡ map (λ c. refused 14 0) bad_tables
 unfolding computing
 held_met = refl
 
@@ -192,17 +189,17 @@ wide_file = 0x50 ∷ 0x34 ∷ 0x0A ∷ 0x33 ∷ 0x30 ∷ 0x30 ∷ 0x20 ∷ 0x31 
 abbrev pub bad_file : List ℕ
 bad_file = 0x78 ∷ []
 
-abbrev pub bad_threes : List (Source × Refusal)
+abbrev pub bad_threes : List (Source × Said)
 bad_threes =
-    (from_three dot_file wide_file bad_file, refusal 10 0)
-    ∷ (from_three dot_file low_file bad_file, refusal 9 0)
-    ∷ (from_three dot_file low_file dot_file, refusal 26 2)
-    ∷ (from_three dot_file dot_file low_file, refusal 26 3)
-    ∷ (from_three dot_file low_file low_file, refusal 26 2)
-    ∷ (from_three dot_file dot_file dot_file, refusal 13 0)
+    (from_three dot_file wide_file bad_file, refused 10 0)
+    ∷ (from_three dot_file low_file bad_file, refused 9 0)
+    ∷ (from_three dot_file low_file dot_file, refused 26 2)
+    ∷ (from_three dot_file dot_file low_file, refused 26 3)
+    ∷ (from_three dot_file low_file low_file, refused 26 2)
+    ∷ (from_three dot_file dot_file dot_file, refused 13 0)
     ∷ []
 
-abbrev pub parts : Refusal → List ℕ
+abbrev pub parts : Said → List ℕ
 parts r = r.number ∷ r.place ∷ r.witness ∷ r.position ∷ []
 
 pub threes_met : all (λ c. same_list (parts (said (refusal_of (answer_of (load ring c.0) (empty_with zero_table))))) (parts c.1)) bad_threes ≡ true
@@ -245,18 +242,18 @@ abbrev pub seam : List ℕ
 seam = replicate 12 0 ++ 1 ∷ replicate 12 0
 
 -- the last two are good; the last has rubbish past its number
-abbrev pub bad_strips : List (Source × Refusal)
+abbrev pub bad_strips : List (Source × Said)
 bad_strips =
-    (from_strip (given 0 (5 ∷ []) (5 ∷ [])) white, refusal 23 0)
-    ∷ (from_strip (given 17 (replicate 16 5) (replicate 16 1)) white, refusal 23 0)
-    ∷ (from_strip (given 3 (5 ∷ 0 ∷ 5 ∷ []) (1 ∷ 2 ∷ 300 ∷ [])) white, refusal 10 2)
-    ∷ (from_strip (given 3 (5 ∷ 4 ∷ 5 ∷ []) (1 ∷ 2 ∷ 257 ∷ [])) white, refusal 10 3)
-    ∷ (from_strip (given 1 (257 ∷ []) (1 ∷ [])) white, refusal 10 1)
-    ∷ (from_strip (given 3 (5 ∷ 4 ∷ 6 ∷ []) (1 ∷ 2 ∷ 2 ∷ [])) white, refusal 23 2)
-    ∷ (from_strip (given 2 (5 ∷ 5 ∷ []) (3 ∷ 2 ∷ [])) (replicate 24 0), refusal 11 0)
-    ∷ (from_strip (given 2 (5 ∷ 5 ∷ []) (3 ∷ 2 ∷ [])) (replicate 20 0 ++ 2 ∷ replicate 4 0), refusal 12 4)
-    ∷ (from_strip (given 2 (5 ∷ 5 ∷ []) (3 ∷ 2 ∷ [])) white, refusal 13 0)
-    ∷ (from_strip (given 2 (5 ∷ 5 ∷ 0 ∷ 900 ∷ []) (3 ∷ 2 ∷ 300 ∷ [])) white, refusal 13 0)
+    (from_strip (given 0 (5 ∷ []) (5 ∷ [])) white, refused 23 0)
+    ∷ (from_strip (given 17 (replicate 16 5) (replicate 16 1)) white, refused 23 0)
+    ∷ (from_strip (given 3 (5 ∷ 0 ∷ 5 ∷ []) (1 ∷ 2 ∷ 300 ∷ [])) white, refused 10 2)
+    ∷ (from_strip (given 3 (5 ∷ 4 ∷ 5 ∷ []) (1 ∷ 2 ∷ 257 ∷ [])) white, refused 10 3)
+    ∷ (from_strip (given 1 (257 ∷ []) (1 ∷ [])) white, refused 10 1)
+    ∷ (from_strip (given 3 (5 ∷ 4 ∷ 6 ∷ []) (1 ∷ 2 ∷ 2 ∷ [])) white, refused 23 2)
+    ∷ (from_strip (given 2 (5 ∷ 5 ∷ []) (3 ∷ 2 ∷ [])) (replicate 24 0), refused 11 0)
+    ∷ (from_strip (given 2 (5 ∷ 5 ∷ []) (3 ∷ 2 ∷ [])) (replicate 20 0 ++ 2 ∷ replicate 4 0), refused 12 4)
+    ∷ (from_strip (given 2 (5 ∷ 5 ∷ []) (3 ∷ 2 ∷ [])) white, refused 13 0)
+    ∷ (from_strip (given 2 (5 ∷ 5 ∷ 0 ∷ 900 ∷ []) (3 ∷ 2 ∷ 300 ∷ [])) white, refused 13 0)
     ∷ []
 
 pub strips_met : all (λ c. same_list (parts (said (refusal_of (answer_of (load ring c.0) (empty_with zero_table))))) (parts c.1)) bad_strips ≡ true

@@ -8,17 +8,16 @@
 --     channel_run_for n q i s      at most n + 1 passes, until one answers "at rest" or is refused. The finished passes stay
 --     channel_run_of q i s         at most pixels + 1 passes
 -- Assumes nothing.
-use Rattle.std.specs.Prelude.{cond, [], ◌∷◌, ℕ, zero, suc, ltb, eqb}
+use Rattle.std.specs.Prelude.{cond, [], ◌∷◌, ℕ, zero, suc, ltb, eqb, Ok, Err}
+use Rattle.history.specs.Answers.{Passed, if_changed}
+use Rattle.history.specs.declared.Effect.TheVariants.{Changed, Stable}
 use Rattle.history.specs.declared.Job.{Job}
-use Rattle.history.specs.declared.Passed.{Passed}
-use Rattle.history.specs.declared.Passed.TheVariants.{Changed, Stable, Refused}
 use Rattle.history.specs.declared.Quota.{Quota}
 use Rattle.history.specs.Pass.{pass_of}
 use Rattle.history.specs.Quota.{channel_rule, available, charged_for}
 use Rattle.history.specs.State.{State, pixels, sound_rule, loaded_rule}
-use Rattle.verdict.specs.declared.Verdict.{Verdict}
-use Rattle.verdict.specs.declared.Verdict.TheVariants as verdict
-use Rattle.verdict.specs.Rules.{refuse_if, judge}
+use Rattle.verdict.specs.Rules.{refuse_if, judge, Verdict}
+use Rattle.verdict.specs.declared.Rule.TheVariants as why
 
 pub record ChannelOutcome : Type 0 where
   pub answer : Passed
@@ -26,7 +25,7 @@ pub record ChannelOutcome : Type 0 where
   pub quota : Quota
 
 abbrev pub spent_rule : Quota → ℕ → ℕ → Verdict
-spent_rule q i n = refuse_if (ltb (available q i) n) 24 i
+spent_rule q i n = refuse_if (ltb (available q i) n) why.AllowanceSpent i
 
 abbrev pub demand : Job → ℕ
 demand j = cond (eqb j.stage 1) 1 0
@@ -35,14 +34,14 @@ unfoldable pub channel_verdict : Quota → ℕ → State → Verdict
 channel_verdict q i s = judge (channel_rule q i ∷ sound_rule s ∷ loaded_rule s ∷ spent_rule q i (demand s.job) ∷ [])
 
 abbrev pub paid : Passed → ℕ → Quota → ℕ → Quota
-paid Changed n q i = charged_for n q i
-paid Stable n q i = charged_for n q i
-paid (Refused r) n q i = q
+paid (Ok Changed) n q i = charged_for n q i
+paid (Ok Stable) n q i = charged_for n q i
+paid (Err r) n q i = q
 
 abbrev pub channel_as : Verdict → Quota → ℕ → State → ChannelOutcome
-channel_as verdict.Accepted q i s =
+channel_as (Ok tt) q i s =
     record { answer = (pass_of s).answer; state = (pass_of s).state; quota = paid (pass_of s).answer (demand s.job) q i }
-channel_as (verdict.Refused r) q i s = record { answer = Refused r; state = s; quota = q }
+channel_as (Err r) q i s = record { answer = Err r; state = s; quota = q }
 
 unfoldable pub channel_pass_of : Quota → ℕ → State → ChannelOutcome
 channel_pass_of q i s = channel_as (channel_verdict q i s) q i s
@@ -50,11 +49,9 @@ channel_pass_of q i s = channel_as (channel_verdict q i s) q i s
 unfoldable pub channel_run_for : ℕ → Quota → ℕ → State → ChannelOutcome
 channel_run_for zero q i s = channel_pass_of q i s
 channel_run_for (suc n) q i s =
-    elim (channel_pass_of q i s).answer [
-      | Changed ↦ channel_run_for n (channel_pass_of q i s).quota i (channel_pass_of q i s).state
-      | Stable ↦ channel_pass_of q i s
-      | Refused r ↦ channel_pass_of q i s
-    ]
+    if_changed (channel_pass_of q i s).answer
+    (channel_run_for n (channel_pass_of q i s).quota i (channel_pass_of q i s).state)
+    (channel_pass_of q i s)
 
 unfoldable pub channel_run_of : Quota → ℕ → State → ChannelOutcome
 channel_run_of q i s = channel_run_for (pixels s.job) q i s

@@ -25,11 +25,8 @@ use Rattle.history.specs.Source.{from_file}
 use Rattle.history.specs.State.{State, empty_job}
 use Rattle.image.specs.Strip.{strip_of, no_counts}
 use Rattle.seq.specs.Lists.{all, same_list}
-use Rattle.verdict.specs.Answers.{said}
-use Rattle.verdict.specs.declared.Refusal.{Refusal}
-use Rattle.verdict.specs.declared.Verdict.{Verdict}
-use Rattle.verdict.specs.declared.Verdict.TheVariants.{Refused}
-use Rattle.verdict.specs.Rules.{refusal}
+use Rattle.verdict.specs.Answers.{said, Said, refused}
+use Rattle.verdict.specs.Rules.{Verdict}
 
 abbrev pub quota_of : ℕ → ℕ → List ℕ → Quota
 quota_of n m rs = record { channels = n; allowance = m; reserves = rs; left = replicate 4 7; pool = 7 }
@@ -102,26 +99,26 @@ abbrev pub five_channels : Quota
 five_channels = record { channels = 5; allowance = 9; reserves = replicate 4 0; left = replicate 4 0; pool = 1 }
 
 -- 25, 14, 16, 24, and 14's pass clause
-abbrev pub orders : List (Quota × ℕ × State × Refusal)
+abbrev pub orders : List (Quota × ℕ × State × Said)
 orders =
-    (one_pass_left, 0, unsound_full, refusal 25 0)
-    ∷ (one_pass_left, 3, no_job, refusal 25 0)
-    ∷ (five_channels, 1, unsound_full, refusal 25 0)
-    ∷ (spent_out, 2, unsound_full, refusal 14 0)
-    ∷ (spent_out, 2, no_job, refusal 16 0)
-    ∷ (spent_out, 2, full, refusal 24 2)
-    ∷ (one_pass_left, 2, full, refusal 14 0)
+    (one_pass_left, 0, unsound_full, refused 25 0)
+    ∷ (one_pass_left, 3, no_job, refused 25 0)
+    ∷ (five_channels, 1, unsound_full, refused 25 0)
+    ∷ (spent_out, 2, unsound_full, refused 14 0)
+    ∷ (spent_out, 2, no_job, refused 16 0)
+    ∷ (spent_out, 2, full, refused 24 2)
+    ∷ (one_pass_left, 2, full, refused 14 0)
     ∷ []
 
 -- of one of them: what a pass and a run are refused by, and what is wanted
-abbrev as_pass : Quota × ℕ × State × Refusal → List ℕ
+abbrev as_pass : Quota × ℕ × State × Said → List ℕ
 as_pass c = spoken (refusal_of (answer_of (channel_pass c.0 c.1) c.2))
 
-abbrev as_run : Quota × ℕ × State × Refusal → List ℕ
+abbrev as_run : Quota × ℕ × State × Said → List ℕ
 as_run c = spoken (refusal_of (answer_of (channel_run c.0 c.1) c.2))
 
-abbrev wanted : Quota × ℕ × State × Refusal → List ℕ
-wanted c = spoken (Refused c.3)
+abbrev wanted : Quota × ℕ × State × Said → List ℕ
+wanted c = c.3.number ∷ c.3.place ∷ []
 
 pub orders_met :
     all (λ c. same_list (as_pass c ++ as_run c) (wanted c ++ wanted c)) orders ≡ true

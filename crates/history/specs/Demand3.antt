@@ -13,13 +13,13 @@
 --     lent a b            the lengths of the areas at its start
 --     Demand3             the claim
 -- Assumes nothing.
-use Rattle.std.specs.Prelude.{true, List, ◌↔◌, ◌⊎◌, ◌≢◌, ◌≡◌, ℕ, ◌+◌, ◌*◌, ◌≤◌, ◌<◌, length, get_or, replicate, take}
+use Rattle.std.specs.Prelude.{true, List, ◌↔◌, ◌⊎◌, ◌≢◌, ◌≡◌, ℕ, ◌+◌, ◌*◌, ◌≤◌, ◌<◌, length, get_or, replicate, take, Ok, Err}
+use Rattle.history.specs.declared.Effect.TheVariants.{Changed, Stable}
 use Rattle.operator.specs.Heijmans.{modified}
 use Rattle.operator.specs.Image.{pixel, IsImage, black, added, removed, differs_at, exchange, Below}
 use Rattle.operator.specs.Locality.{reach, Alike, Inner}
 use Rattle.operator.specs.Parts.{added_in, removed_in}
 use Rattle.operator.specs.Pass as operator
-use Rattle.history.specs.declared.Passed.TheVariants.{Changed, Stable}
 use Rattle.history.specs.declared.Quota.{Quota}
 use Rattle.history.specs.Answered.{answered_by}
 use Rattle.history.specs.Call.{Call, load, pass, run, collect, channel_pass, channel_run, passed, collected, answer_of, state_of, refusal_of}
@@ -36,8 +36,7 @@ use Rattle.seq.specs.Lists.{one, sum_of}
 use Rattle.table.specs.declared.Table.{Table}
 use Rattle.table.specs.Record.{record_verdict}
 use Rattle.verdict.specs.declared.Refusal.{Refusal}
-use Rattle.verdict.specs.declared.Verdict.TheVariants.{Accepted, Refused}
-use Rattle.verdict.specs.declared.Written.TheVariants as written
+use Rattle.verdict.specs.Rules.{number_of}
 
 pub record Agrees (s : State) (e : Entry) : Type 0 where
   pub table : s.job.table ≡ e.table
@@ -47,8 +46,8 @@ pub record Agrees (s : State) (e : Entry) : Type 0 where
   pub strip : s.job.strip ≡ strip_of e.width e.parts
   pub rows : sum_of e.parts ≡ e.height
   -- the table was accepted, the size of each part is within the limits, and every pixel of the last image is 0 or 1
-  pub accepted : record_verdict e.table ≡ Accepted
-  pub sized : shape_verdict (strip_of e.width e.parts) ≡ Accepted
+  pub accepted : record_verdict e.table ≡ Ok tt
+  pub sized : shape_verdict (strip_of e.width e.parts) ≡ Ok tt
   pub image : IsImage e.width e.height e.last
   -- view gives the last image's pixels
   pub view : view_of s ≡ e.last
@@ -74,8 +73,8 @@ pub record Agrees (s : State) (e : Entry) : Type 0 where
 -- demand 2, of one pass
 pub record Operated (t : Table) (w h : ℕ) (s : State) : Type 0 where
   pub image : view_of (state_of pass s) ≡ modified t w h (view_of s)
-  pub reported : (answer_of pass s ≡ passed Stable) ↔ (modified t w h (view_of s) ≡ view_of s)
-  pub otherwise : (answer_of pass s ≡ passed Changed) ⊎ (answer_of pass s ≡ passed Stable)
+  pub reported : (answer_of pass s ≡ passed (Ok Stable)) ↔ (modified t w h (view_of s) ≡ view_of s)
+  pub otherwise : (answer_of pass s ≡ passed (Ok Changed)) ⊎ (answer_of pass s ≡ passed (Ok Stable))
 
 pub record RunAsPasses (w : Course) (e : Entry) : Type 0 where
   pub passes : ℕ
@@ -83,7 +82,7 @@ pub record RunAsPasses (w : Course) (e : Entry) : Type 0 where
   -- record, areas, history and the tally end as after these passes called singly
   pub singly : step run w ≡ play (replicate passes pass) w
   -- and the run answers "at rest"
-  pub answer : answer_of run w.state ≡ passed Stable
+  pub answer : answer_of run w.state ≡ passed (Ok Stable)
 
 -- 02, T-10: record, areas, history and tally end as after these passes called singly, and the quota with so many passes less
 pub record ChannelAsPasses (w : Course) (e : Entry) (q : Quota) (i : ℕ) : Type 0 where
@@ -109,12 +108,12 @@ pub record AfterList (n : Lengths) (w : Course) : Type 0 where
   pub answered : (c : Call) → answer_of c w.state ≡ answered_by c n w.history
   -- so it is refused exactly as the history says, and never by 14
   pub refused : (c : Call) → refusal_of (answer_of c w.state) ≡ refused_by c n w.history
-  pub never_14 : (c : Call) (r : Refusal) → refusal_of (answer_of c w.state) ≡ Refused r → r.number ≢ 14
+  pub never_14 : (c : Call) (r : Refusal) → refusal_of (answer_of c w.state) ≡ Err r → number_of r ≢ 14
   -- and a refused call alters neither record nor areas, but for a channel's run that 24 stops on its way
-  pub unaltered : (c : Call) (r : Refusal) → barred_by c n w.history ≡ Refused r → state_of c w.state ≡ w.state
+  pub unaltered : (c : Call) (r : Refusal) → barred_by c n w.history ≡ Err r → state_of c w.state ≡ w.state
   -- a channel's calls, with any quota: its passes called singly; on an empty job, and by 25, the quota is handed back as it was
-  pub channel_as_passes : (e : Entry) → w.history ≡ holds e → (q : Quota) (i : ℕ) → channel_rule q i ≡ Accepted → ChannelAsPasses w e q i
-  pub quota_back : (q : Quota) (i : ℕ) → (w.history ≡ empty) ⊎ (channel_rule q i ≢ Accepted) → QuotaBack q i w.state
+  pub channel_as_passes : (e : Entry) → w.history ≡ holds e → (q : Quota) (i : ℕ) → channel_rule q i ≡ Ok tt → ChannelAsPasses w e q i
+  pub quota_back : (q : Quota) (i : ℕ) → (w.history ≡ empty) ⊎ (channel_rule q i ≢ Ok tt) → QuotaBack q i w.state
 
 pub record Twins (w w' : Course) (e e' : Entry) : Type 0 where
   pub here : w.history ≡ holds e
@@ -130,15 +129,15 @@ pub record Rests (img : List ℕ) (s : State) : Type 0 where
   pub passes : s.job.passes ≡ 0
   pub added : s.job.added ≡ 0
   pub removed : s.job.removed ≡ 0
-  pub pass_answer : answer_of pass s ≡ passed Stable
-  pub run_answer : answer_of run s ≡ passed Stable
+  pub pass_answer : answer_of pass s ≡ passed (Ok Stable)
+  pub run_answer : answer_of run s ≡ passed (Ok Stable)
   -- and every channel's pass and run that its quota lets through
-  pub channel_pass_answer : (q : Quota) (i : ℕ) → refusal_of (answer_of (channel_pass q i) s) ≡ Accepted → answer_of (channel_pass q i) s ≡ passed Stable
-  pub channel_run_answer : (q : Quota) (i : ℕ) → refusal_of (answer_of (channel_run q i) s) ≡ Accepted → answer_of (channel_run q i) s ≡ passed Stable
+  pub channel_pass_answer : (q : Quota) (i : ℕ) → refusal_of (answer_of (channel_pass q i) s) ≡ Ok tt → answer_of (channel_pass q i) s ≡ passed (Ok Stable)
+  pub channel_run_answer : (q : Quota) (i : ℕ) → refusal_of (answer_of (channel_run q i) s) ≡ Ok tt → answer_of (channel_run q i) s ≡ passed (Ok Stable)
 
 -- a source loaded with the entry's table: accepted, and what it loads is the entry's last image, which stays until a collect is accepted
 pub record Reloads (w : Course) (e : Entry) (x : Source) : Type 0 where
-  pub accepted : refusal_of (answer_of (load e.table x) w.state) ≡ Accepted
+  pub accepted : refusal_of (answer_of (load e.table x) w.state) ≡ Ok tt
   pub rests : (cs : List Call) → uncollected cs (step (load e.table x) w) ≡ true
       → Rests e.last (play cs (step (load e.table x) w)).state
 
@@ -178,11 +177,11 @@ pub record Demand3 : Type 0 where
       → operator.Stable e.table e.width e.height (first_of e) → Rests (first_of e) (played cs a b).state
   -- what an accepted collect wrote of a single image, loaded again with its table
   pub reloaded : (cs : List Call) (a b out : List ℕ) (e : Entry) (m : ℕ) (after : List ℕ) → (played cs a b).history ≡ holds e → length e.parts ≡ 1
-      → answer_of (collect out) (played cs a b).state ≡ collected (written.Length m) after
+      → answer_of (collect out) (played cs a b).state ≡ collected (Ok m) after
       → Reloads (step (collect out) (played cs a b)) e (from_file (take m after))
   -- after an accepted collect, the strip of the parts that its files hold
   pub relaid : (cs : List Call) (a b out : List ℕ) (e : Entry) (m : ℕ) (after : List ℕ) → (played cs a b).history ≡ holds e
-      → answer_of (collect out) (played cs a b).state ≡ collected (written.Length m) after
+      → answer_of (collect out) (played cs a b).state ≡ collected (Ok m) after
       → Reloads (step (collect out) (played cs a b)) e (from_strip (strip_of e.width e.parts) e.last)
   -- a strip beside its part i alone, after equally many accepted passes: far enough from the seams view gives one pixel
   pub alone : (cs cs' : List Call) (a b a' b' : List ℕ) (e e' : Entry) (i : ℕ) → Alone (played cs a b) (played cs' a' b') e e' i

@@ -10,9 +10,8 @@
 --     SameBut24 i v w    two verdicts are the same, or one of them is 24 at i
 --     Rounds             the claims
 -- Assumes nothing.
-use Rattle.std.specs.Prelude.{cond, List, [], ◌∷◌, ◌⊎◌, ◌≡◌, ℕ, ◌+◌, ◌-◌, ◌*◌, ◌≤◌, ◌<◌, eqb, get_or}
+use Rattle.std.specs.Prelude.{cond, List, [], ◌∷◌, ◌⊎◌, ◌≡◌, ℕ, ◌+◌, ◌-◌, ◌*◌, ◌≤◌, ◌<◌, eqb, get_or, Ok, Err}
 use Rattle.operator.specs.Pass as operator
-use Rattle.history.specs.declared.Passed.TheVariants.{Refused}
 use Rattle.history.specs.declared.Quota.{Quota}
 use Rattle.history.specs.Call.{Call, channel_pass, channel_run, answer_of, refusal_of}
 use Rattle.history.specs.Channel.{ChannelOutcome, channel_pass_of, channel_run_of}
@@ -26,9 +25,8 @@ use Rattle.history.specs.State.{State}
 use Rattle.history.specs.View.{view_of}
 use Rattle.seq.specs.Lists.{sum_of}
 use Rattle.seq.specs.Tab.{tab}
-use Rattle.verdict.specs.declared.Verdict.{Verdict}
-use Rattle.verdict.specs.declared.Verdict.TheVariants as verdict
-use Rattle.verdict.specs.Rules.{refusal}
+use Rattle.verdict.specs.Rules.{refusal, Verdict}
+use Rattle.verdict.specs.declared.Rule.TheVariants as why
 
 pub record Fleet : Type 0 where
   pub quota : Quota
@@ -48,9 +46,9 @@ pub data Move : Type 0 where
 
 -- 25, and a job that holds nothing, spend nothing
 abbrev pub spent_as : Verdict → (Entry → ℕ) → Quota → ℕ → History → ℕ
-spent_as verdict.Accepted most q i empty = 0
-spent_as verdict.Accepted most q i (holds e) = spends (most e) q i e
-spent_as (verdict.Refused r) most q i H = 0
+spent_as (Ok _) most q i empty = 0
+spent_as (Ok _) most q i (holds e) = spends (most e) q i e
+spent_as (Err r) most q i H = 0
 
 abbrev pub spent_by : (Entry → ℕ) → Quota → ℕ → History → ℕ
 spent_by most q i H = spent_as (channel_rule q i) most q i H
@@ -86,13 +84,13 @@ pub record AfterRound (q : Quota) (a b : ℕ → List ℕ) (F : Fleet) : Type 0 
   pub own : (i : ℕ) (e : Entry) → (F.courses i).history ≡ holds e
       → view_of (F.courses i).state ≡ operator.passes e.table e.width e.height (F.courses i).tally (first_of e)
   -- of its reserve a channel has left what it did not spend
-  pub reserve : (i : ℕ) → channel_rule F.quota i ≡ verdict.Accepted → left_of F.quota i ≡ reserve_of (open_quota q) i - F.spent i
+  pub reserve : (i : ℕ) → channel_rule F.quota i ≡ Ok tt → left_of F.quota i ≡ reserve_of (open_quota q) i - F.spent i
   -- so it can always use it: a pass within it is not refused, nor is a run
-  pub usable_pass : (i : ℕ) (e : Entry) → channel_rule F.quota i ≡ verdict.Accepted → (F.courses i).history ≡ holds e
-      → F.spent i < reserve_of (open_quota q) i → refusal_of (answer_of (channel_pass F.quota i) (F.courses i).state) ≡ verdict.Accepted
-  pub usable_run : (i : ℕ) (e : Entry) → channel_rule F.quota i ≡ verdict.Accepted → (F.courses i).history ≡ holds e
+  pub usable_pass : (i : ℕ) (e : Entry) → channel_rule F.quota i ≡ Ok tt → (F.courses i).history ≡ holds e
+      → F.spent i < reserve_of (open_quota q) i → refusal_of (answer_of (channel_pass F.quota i) (F.courses i).state) ≡ Ok tt
+  pub usable_run : (i : ℕ) (e : Entry) → channel_rule F.quota i ≡ Ok tt → (F.courses i).history ≡ holds e
       → F.spent i + needed (e.width * e.height + 1) e ≤ reserve_of (open_quota q) i
-      → refusal_of (answer_of (channel_run F.quota i) (F.courses i).state) ≡ verdict.Accepted
+      → refusal_of (answer_of (channel_run F.quota i) (F.courses i).state) ≡ Ok tt
   -- what the channels spent, what is left of their reserves, and the pool are the allowance
   pub within_allowance : sum_of (tab (λ k. F.spent (k + 1)) max_channels) + (sum_of F.quota.left + F.quota.pool) ≡ q.allowance
   -- the channels stay, and a new round restores all of it
@@ -101,24 +99,24 @@ pub record AfterRound (q : Quota) (a b : ℕ → List ℕ) (F : Fleet) : Type 0 
 
 -- refused by 24, or as the plain call in answer, record and areas
 abbrev pub PlainBut24 : ℕ → ChannelOutcome → Outcome → Type 0
-PlainBut24 i o p = (o.answer ≡ Refused (refusal 24 i)) ⊎ ((o.answer ≡ p.answer) × (o.state ≡ p.state))
+PlainBut24 i o p = (o.answer ≡ Err (refusal why.AllowanceSpent i)) ⊎ ((o.answer ≡ p.answer) × (o.state ≡ p.state))
 
 pub record Unmetered (q : Quota) (i : ℕ) (s : State) : Type 0 where
   pub pass_plain : PlainBut24 i (channel_pass_of q i s) (pass_of s)
   pub run_plain : PlainBut24 i (channel_run_of q i s) (run_of s)
 
 abbrev pub SameBut24 : ℕ → Verdict → Verdict → Type 0
-SameBut24 i v w = (v ≡ w) ⊎ ((v ≡ verdict.Refused (refusal 24 i)) ⊎ (w ≡ verdict.Refused (refusal 24 i)))
+SameBut24 i v w = (v ≡ w) ⊎ ((v ≡ Err (refusal why.AllowanceSpent i)) ⊎ (w ≡ Err (refusal why.AllowanceSpent i)))
 
 pub record Rounds : Type 0 where
   -- any list of moves from a quota that was opened
-  pub after_round : (q : Quota) → open_verdict q ≡ verdict.Accepted → (a b : ℕ → List ℕ) (ms : List Move) → AfterRound q a b (moved ms (begun q a b))
+  pub after_round : (q : Quota) → open_verdict q ≡ Ok tt → (a b : ℕ → List ℕ) (ms : List Move) → AfterRound q a b (moved ms (begun q a b))
   -- reserves past the channels are unread
   pub unread : (q p : Quota) → q.channels ≡ p.channels → q.allowance ≡ p.allowance
       → ((k : ℕ) → k < q.channels → get_or q.reserves k 0 ≡ get_or p.reserves k 0)
-      → (open_verdict q ≡ open_verdict p) × (open_verdict q ≡ verdict.Accepted → open_quota q ≡ open_quota p)
+      → (open_verdict q ≡ open_verdict p) × (open_verdict q ≡ Ok tt → open_quota q ≡ open_quota p)
   -- whatever the record holds
-  pub unmetered : (q : Quota) (i : ℕ) (s : State) → channel_rule q i ≡ verdict.Accepted → Unmetered q i s
+  pub unmetered : (q : Quota) (i : ℕ) (s : State) → channel_rule q i ≡ Ok tt → Unmetered q i s
   -- of two quotas with equally many channels: the same refusal, or one of them is 24
   pub only_24_pass : (q q' : Quota) (i : ℕ) (s : State) → q.channels ≡ q'.channels
       → SameBut24 i (refusal_of (answer_of (channel_pass q i) s)) (refusal_of (answer_of (channel_pass q' i) s))

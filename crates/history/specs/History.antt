@@ -17,7 +17,7 @@
 --     after c n H          the history after a call: a refused one leaves it alone, but for such a run; after_as v c H: by the verdict
 --     accepted c H         the history after an accepted call
 -- Assumes nothing.
-use Rattle.std.specs.Prelude.{Bool, true, false, cond, not, List, [], ◌∷◌, ℕ, zero, suc, ◌+◌, ◌*◌, min, ltb, length}
+use Rattle.std.specs.Prelude.{Bool, true, false, cond, not, List, [], ◌∷◌, ℕ, zero, suc, ◌+◌, ◌*◌, min, ltb, length, Ok, Err}
 use Rattle.operator.specs.Image.{differs}
 use Rattle.operator.specs.Pass as operator
 use Rattle.history.specs.declared.Quota.{Quota}
@@ -29,9 +29,8 @@ use Rattle.history.specs.Source.{Source, source_verdict, source_width, source_he
 use Rattle.image.specs.Strip.{strip_bytes}
 use Rattle.table.specs.declared.Table.{Table}
 use Rattle.table.specs.Record.{record_verdict}
-use Rattle.verdict.specs.declared.Verdict.{Verdict}
-use Rattle.verdict.specs.declared.Verdict.TheVariants.{Accepted, Refused}
-use Rattle.verdict.specs.Rules.{refusal, refuse_if, judge}
+use Rattle.verdict.specs.Rules.{refusal, refuse_if, judge, Verdict}
+use Rattle.verdict.specs.declared.Rule.TheVariants as why
 
 pub record Entry : Type 0 where
   pub table : Table
@@ -121,21 +120,21 @@ files_of e = strip_bytes e.width e.parts e.last
 
 unfoldable pub refused_by : Call → Lengths → History → Verdict
 refused_by (load t x) n empty = judge (record_verdict t ∷ source_verdict x ∷ areas_rule x n.first n.second ∷ [])
-refused_by (load t x) n (holds e) = Refused (refusal 15 0)
-refused_by pass n empty = Refused (refusal 16 0)
-refused_by pass n (holds e) = Accepted
-refused_by run n empty = Refused (refusal 16 0)
-refused_by run n (holds e) = Accepted
-refused_by view n empty = Refused (refusal 16 0)
-refused_by view n (holds e) = Accepted
-refused_by figures n empty = Refused (refusal 16 0)
-refused_by figures n (holds e) = Accepted
-refused_by (collect out) n empty = Refused (refusal 16 0)
+refused_by (load t x) n (holds e) = Err (refusal why.NotCollected 0)
+refused_by pass n empty = Err (refusal why.NothingLoaded 0)
+refused_by pass n (holds e) = Ok tt
+refused_by run n empty = Err (refusal why.NothingLoaded 0)
+refused_by run n (holds e) = Ok tt
+refused_by view n empty = Err (refusal why.NothingLoaded 0)
+refused_by view n (holds e) = Ok tt
+refused_by figures n empty = Err (refusal why.NothingLoaded 0)
+refused_by figures n (holds e) = Ok tt
+refused_by (collect out) n empty = Err (refusal why.NothingLoaded 0)
 refused_by (collect out) n (holds e) =
-    judge (refuse_if (not e.settled) 17 0 ∷ refuse_if (ltb (length out) (length (files_of e))) 13 0 ∷ [])
-refused_by (channel_pass q i) n empty = judge (channel_rule q i ∷ Refused (refusal 16 0) ∷ [])
+    judge (refuse_if (not e.settled) why.NotStable 0 ∷ refuse_if (ltb (length out) (length (files_of e))) why.AreaShort 0 ∷ [])
+refused_by (channel_pass q i) n empty = judge (channel_rule q i ∷ Err (refusal why.NothingLoaded 0) ∷ [])
 refused_by (channel_pass q i) n (holds e) = judge (channel_rule q i ∷ spent_rule q i (needed 1 e) ∷ [])
-refused_by (channel_run q i) n empty = judge (channel_rule q i ∷ Refused (refusal 16 0) ∷ [])
+refused_by (channel_run q i) n empty = judge (channel_rule q i ∷ Err (refusal why.NothingLoaded 0) ∷ [])
 refused_by (channel_run q i) n (holds e) = judge (channel_rule q i ∷ spent_rule q i (needed (e.width * e.height + 1) e) ∷ [])
 
 -- a channel's run that 24 stops on its way has made passes
@@ -165,8 +164,8 @@ accepted (channel_run q i) empty = empty
 accepted (channel_run q i) (holds e) = holds (passed_for (made (e.width * e.height + 1) q i e) e)
 
 abbrev pub after_as : Verdict → Call → History → History
-after_as Accepted c H = accepted c H
-after_as (Refused r) c H = H
+after_as (Ok _) c H = accepted c H
+after_as (Err r) c H = H
 
 unfoldable pub after : Call → Lengths → History → History
 after c n H = after_as (barred_by c n H) c H

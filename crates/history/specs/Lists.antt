@@ -9,13 +9,11 @@
 --     first_of e         the first image of an entry; oldest img earlier: the oldest of a row, from the last image back
 --     over_steps f e     f from image to next image, summed over the steps of an entry; sum_steps f img earlier: over those of a row
 -- Assumes nothing.
-use Rattle.std.specs.Prelude.{Bool, true, not, ◌&&◌, List, [], ◌∷◌, ℕ, ◌+◌, ◌*◌, length}
+use Rattle.std.specs.Prelude.{Bool, true, not, ◌&&◌, List, [], ◌∷◌, ℕ, ◌+◌, ◌*◌, length, Ok, Err}
 use Rattle.history.specs.Call.{Call, load, pass, run, view, figures, collect, channel_pass, channel_run, is_collect, answer_of, state_of, refusal_of}
 use Rattle.history.specs.History.{Entry, History, empty, holds, Lengths, passes_of_run, made, barred_by, after}
 use Rattle.history.specs.State.{State, empty_job}
-use Rattle.verdict.specs.declared.Verdict.{Verdict}
-use Rattle.verdict.specs.declared.Verdict.TheVariants.{Accepted, Refused}
-use Rattle.verdict.specs.Rules.{is_accepted}
+use Rattle.verdict.specs.Rules.{is_accepted, Verdict}
 
 pub record Course : Type 0 where
   pub state : State
@@ -41,8 +39,8 @@ tallied (channel_run q i) empty n = n
 tallied (channel_run q i) (holds e) n = n + made (e.width * e.height + 1) q i e
 
 abbrev pub tally_as : Verdict → Call → History → ℕ → ℕ
-tally_as Accepted c H n = tallied c H n
-tally_as (Refused r) c H n = n
+tally_as (Ok _) c H n = tallied c H n
+tally_as (Err r) c H n = n
 
 unfoldable pub step : Call → Course → Course
 step c w =

@@ -3,7 +3,7 @@
 --     FromThree e f g h       the entry's first image is the majority of three accepted files
 --     JobMajority             the claim, over every record (made by whomever) and over lists of calls
 -- Assumes nothing.
-use Rattle.std.specs.Prelude.{not, List, [], ◌∷◌, ◌≢◌, ◌≡◌, ℕ, eqb, length}
+use Rattle.std.specs.Prelude.{not, List, [], ◌∷◌, ◌≢◌, ◌≡◌, ℕ, eqb, length, Ok, Err}
 use Rattle.history.specs.Call.{Call, load, answer_of, refusal_of}
 use Rattle.history.specs.Demand3.{Twins, played}
 use Rattle.history.specs.History.{Entry, entered}
@@ -20,14 +20,14 @@ use Rattle.operator.specs.Image.{exchange, Below}
 use Rattle.table.specs.declared.Table.{Table}
 use Rattle.table.specs.Record.{record_verdict}
 use Rattle.verdict.specs.declared.Refusal.{Refusal}
-use Rattle.verdict.specs.declared.Verdict.TheVariants.{Accepted, Refused}
-use Rattle.verdict.specs.Rules.{refuse_if, judge}
+use Rattle.verdict.specs.Rules.{refuse_if, judge, number_of}
+use Rattle.verdict.specs.declared.Rule.TheVariants as why
 
 abbrev pub majority_file : List ℕ → List ℕ → List ℕ → List ℕ
 majority_file f g h = image_bytes (width_of f) (height_of f) (majority_of (image_of f) (image_of g) (image_of h))
 
 pub record FromThree (e : Entry) (f g h : List ℕ) : Type 0 where
-  pub accepted : three_verdict f g h ≡ Accepted
+  pub accepted : three_verdict f g h ≡ Ok tt
   pub width : e.width ≡ width_of f
   pub height : e.height ≡ height_of f
   pub first : first_of e ≡ majority_of (image_of f) (image_of g) (image_of h)
@@ -38,20 +38,20 @@ pub record JobMajority : Type 0 where
       → load_verdict t (from_three f g h) s
       ≡ judge (
       sound_rule s
-      ∷ refuse_if (not (eqb s.job.stage 0)) 15 0
+      ∷ refuse_if (not (eqb s.job.stage 0)) why.NotCollected 0
       ∷ record_verdict t
       ∷ file_verdict f
       ∷ file_verdict g
       ∷ file_verdict h
-      ∷ refuse_if (size_differs g f) 26 2
-      ∷ refuse_if (size_differs h f) 26 3
+      ∷ refuse_if (size_differs g f) why.SizesDiffer 2
+      ∷ refuse_if (size_differs h f) why.SizesDiffer 3
       ∷ areas_rule (from_three f g h) (length s.first) (length s.second)
       ∷ []
       )
   -- a load of three accepted files is a load of their majority's file: the same answer, and the same record, areas, history and tally
-  pub answer : (t : Table) (f g h : List ℕ) → three_verdict f g h ≡ Accepted → (s : State)
+  pub answer : (t : Table) (f g h : List ℕ) → three_verdict f g h ≡ Ok tt → (s : State)
       → answer_of (load t (from_three f g h)) s ≡ answer_of (load t (from_file (majority_file f g h))) s
-  pub course : (t : Table) (f g h : List ℕ) → three_verdict f g h ≡ Accepted → (w : Course)
+  pub course : (t : Table) (f g h : List ℕ) → three_verdict f g h ≡ Ok tt → (w : Course)
       → step (load t (from_three f g h)) w ≡ step (load t (from_file (majority_file f g h))) w
   -- three times one file, accepted or not, is that file
   pub same_answer : (t : Table) (f : List ℕ) (s : State) → answer_of (load t (from_three f f f)) s ≡ answer_of (load t (from_file f)) s
@@ -61,9 +61,9 @@ pub record JobMajority : Type 0 where
       → answer_of (load t (from_three f g h)) s ≡ answer_of (load t (from_three f' g' h')) s
   pub ignored_course : (t : Table) (f g h f' g' h' : List ℕ) → cleared f ≡ cleared f' → cleared g ≡ cleared g' → cleared h ≡ cleared h' → (w : Course)
       → step (load t (from_three f g h)) w ≡ step (load t (from_three f' g' h')) w
-  pub never_12 : (t : Table) (f g h : List ℕ) (s : State) (r : Refusal) → refusal_of (answer_of (load t (from_three f g h)) s) ≡ Refused r → r.number ≢ 12
+  pub never_12 : (t : Table) (f g h : List ℕ) (s : State) (r : Refusal) → refusal_of (answer_of (load t (from_three f g h)) s) ≡ Err r → number_of r ≢ 12
   -- an accepted load enters it as the first image
-  pub entry : (t : Table) (f g h : List ℕ) → three_verdict f g h ≡ Accepted → FromThree (entered t (from_three f g h)) f g h
+  pub entry : (t : Table) (f g h : List ℕ) → three_verdict f g h ≡ Ok tt → FromThree (entered t (from_three f g h)) f g h
   -- two jobs with one table, one size and equally many accepted passes, or both settled: colours exchanged in all three
   pub exchanged : (cs cs' : List Call) (a b a' b' : List ℕ) (e e' : Entry) → Twins (played cs a b) (played cs' a' b') e e'
       → (f g h f' g' h' : List ℕ) → FromThree e f g h → FromThree e' f' g' h'

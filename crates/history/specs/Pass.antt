@@ -10,20 +10,19 @@
 --     pass_ready s        a pass on a sound record that has an image; at rest it does nothing
 --     pass_of s           what a pass does; pass_as v s: by the verdict of 14 and 16
 -- Assumes nothing.
-use Rattle.std.specs.Prelude.{Bool, cond, ◌||◌, List, ℕ, ◌+◌, ltb, eqb}
+use Rattle.std.specs.Prelude.{Bool, cond, ◌||◌, List, ℕ, ◌+◌, ltb, eqb, Ok, Err}
+use Rattle.history.specs.Answers.{Passed}
+use Rattle.history.specs.declared.Effect.TheVariants.{Changed, Stable}
 use Rattle.operator.specs.Image.{added, removed, differs}
 use Rattle.operator.specs.Parts.{part_counts, summed}
 use Rattle.operator.specs.Pass.{pass}
 use Rattle.history.specs.declared.Job.{Job}
-use Rattle.history.specs.declared.Passed.{Passed}
-use Rattle.history.specs.declared.Passed.TheVariants as passed
 use Rattle.history.specs.State.{State, pixels, even, image, ready_verdict}
 use Rattle.image.specs.declared.strip.PartCounts.{PartCounts}
 use Rattle.image.specs.Strip.{heights_of}
-use Rattle.verdict.specs.declared.Verdict.{Verdict}
-use Rattle.verdict.specs.declared.Verdict.TheVariants.{Accepted, Refused}
-use Rattle.verdict.specs.Rules.{refusal}
+use Rattle.verdict.specs.Rules.{refusal, Verdict}
 use Rattle.verdict.specs.Writer.{over}
+use Rattle.verdict.specs.declared.Rule.TheVariants as why
 
 pub record Outcome : Type 0 where
   pub answer : Passed
@@ -81,18 +80,18 @@ stable_job s =
 unfoldable pub changing : State → Outcome
 changing s =
     cond (exceeds s)
-    (record { answer = passed.Refused (refusal 14 0); state = s })
-    (record { answer = passed.Changed; state = with_next (changed_job s) s })
+    (record { answer = Err (refusal why.Unsound 0); state = s })
+    (record { answer = (Ok Changed); state = with_next (changed_job s) s })
 
 unfoldable pub pass_loaded : State → Outcome
-pass_loaded s = cond (differs (image s) (next_image s)) (changing s) (record { answer = passed.Stable; state = with_next (stable_job s) s })
+pass_loaded s = cond (differs (image s) (next_image s)) (changing s) (record { answer = (Ok Stable); state = with_next (stable_job s) s })
 
 unfoldable pub pass_ready : State → Outcome
-pass_ready s = cond (eqb s.job.stage 2) (record { answer = passed.Stable; state = s }) (pass_loaded s)
+pass_ready s = cond (eqb s.job.stage 2) (record { answer = (Ok Stable); state = s }) (pass_loaded s)
 
 abbrev pub pass_as : Verdict → State → Outcome
-pass_as Accepted s = pass_ready s
-pass_as (Refused r) s = record { answer = passed.Refused r; state = s }
+pass_as (Ok _) s = pass_ready s
+pass_as (Err r) s = record { answer = Err r; state = s }
 
 unfoldable pub pass_of : State → Outcome
 pass_of s = pass_as (ready_verdict s) s

@@ -8,14 +8,13 @@
 --     available q i        the passes that channel i may still make
 --     charged q i          the quota with one pass less, from the channel's reserve first; charged_for n q i: with n less
 -- Assumes nothing.
-use Rattle.std.specs.Prelude.{Bool, cond, not, ◌||◌, List, ℕ, zero, suc, ◌+◌, ◌-◌, ltb, get_or, set}
+use Rattle.std.specs.Prelude.{Bool, cond, not, ◌||◌, List, ℕ, zero, suc, ◌+◌, ◌-◌, ltb, get_or, set, Ok, Err}
 use Rattle.history.specs.declared.Quota.{Quota}
 use Rattle.image.specs.Size.{within}
 use Rattle.seq.specs.Lists.{sum_of}
 use Rattle.seq.specs.Tab.{tab}
-use Rattle.verdict.specs.declared.Verdict.{Verdict}
-use Rattle.verdict.specs.declared.Verdict.TheVariants.{Accepted, Refused}
-use Rattle.verdict.specs.Rules.{refuse_if}
+use Rattle.verdict.specs.Rules.{refuse_if, Verdict}
+use Rattle.verdict.specs.declared.Rule.TheVariants as why
 
 abbrev pub max_channels : ℕ
 max_channels = 4
@@ -26,12 +25,12 @@ kept q = tab (λ k. cond (ltb k q.channels) (get_or q.reserves k 0) 0) max_chann
 
 -- the sum is one of numbers: nothing wraps
 unfoldable pub open_verdict : Quota → Verdict
-open_verdict q = refuse_if (not (within max_channels q.channels) || ltb q.allowance (sum_of (kept q))) 25 0
+open_verdict q = refuse_if (not (within max_channels q.channels) || ltb q.allowance (sum_of (kept q))) why.QuotaRange 0
 
 abbrev pub open_as : Verdict → Quota → Quota
-open_as Accepted q =
+open_as (Ok tt) q =
     record { channels = q.channels; allowance = q.allowance; reserves = kept q; left = kept q; pool = q.allowance - sum_of (kept q) }
-open_as (Refused r) q = q
+open_as (Err r) q = q
 
 unfoldable pub open_quota : Quota → Quota
 open_quota q = open_as (open_verdict q) q
@@ -40,7 +39,7 @@ unfoldable pub lacks : Quota → ℕ → Bool
 lacks q i = ltb max_channels q.channels || not (within q.channels i)
 
 unfoldable pub channel_rule : Quota → ℕ → Verdict
-channel_rule q i = refuse_if (lacks q i) 25 0
+channel_rule q i = refuse_if (lacks q i) why.QuotaRange 0
 
 abbrev pub left_of : Quota → ℕ → ℕ
 left_of q i = get_or q.left (i - 1) 0

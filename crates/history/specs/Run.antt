@@ -3,13 +3,13 @@
 --     run_of s        at most pixels + 1 passes
 -- Assumes nothing.
 use Rattle.std.specs.Prelude.{ℕ, zero, suc}
-use Rattle.history.specs.declared.Passed.TheVariants.{Changed, Stable, Refused}
+use Rattle.history.specs.Answers.{if_changed}
 use Rattle.history.specs.Pass.{Outcome, pass_of}
 use Rattle.history.specs.State.{State, pixels}
 
 unfoldable pub run_for : ℕ → State → Outcome
 run_for zero s = pass_of s
-run_for (suc n) s = elim (pass_of s).answer [ Changed ↦ run_for n (pass_of s).state | Stable ↦ pass_of s | Refused r ↦ pass_of s ]
+run_for (suc n) s = if_changed (pass_of s).answer (run_for n (pass_of s).state) (pass_of s)
 
 unfoldable pub run_of : State → Outcome
 run_of s = run_for (pixels s.job) s

@@ -4,25 +4,24 @@
 --     Overruns s         14's pass clause: a changing pass that would take passes, or added + removed, above pixels
 --     Ready s            a sound record at stage 1 or 2: none of 14's conditions holds
 -- Assumes nothing.
-use Rattle.std.specs.Prelude.{false, ◌⊎◌, ◌≢◌, ◌≡◌, ℕ, ◌+◌, ◌≤◌, ◌<◌, ltb, length, drop}
+use Rattle.std.specs.Prelude.{false, ◌⊎◌, ◌≢◌, ◌≡◌, ℕ, ◌+◌, ◌≤◌, ◌<◌, ltb, length, drop, Ok}
 use mathlib.Core.List.{List, Memᴰ}
 use Rattle.history.specs.Pass.{next_image, now_added, now_removed}
 use Rattle.history.specs.State.{State, fields_of, part_fields, pixels, bad_parts, image}
 use Rattle.image.specs.Strip.{padded, strip_width, strip_height, shape_verdict}
 use Rattle.seq.specs.Lists.{any, sum_of}
 use Rattle.table.specs.Record.{record_verdict}
-use Rattle.verdict.specs.declared.Verdict.TheVariants.{Accepted}
 
 pub data Inconsistent (s : State) : Type 0 where
   -- 23, or 10 for one of the parts
-  bad_shape : shape_verdict s.job.strip ≢ Accepted → Inconsistent s
+  bad_shape : shape_verdict s.job.strip ≢ Ok tt → Inconsistent s
   other_width : s.job.width ≢ strip_width s.job.strip → Inconsistent s
   other_height : s.job.height ≢ strip_height s.job.strip → Inconsistent s
   -- a place past the parts: of the widths, the heights, the added or the removed
   past_the_parts : (xs : List ℕ) → Memᴰ xs (part_fields s.job) → (v : ℕ) → Memᴰ v (drop s.job.strip.parts xs) → v ≢ 0 → Inconsistent s
   other_added : s.job.added ≢ sum_of (padded s.job.counts.added) → Inconsistent s
   other_removed : s.job.removed ≢ sum_of (padded s.job.counts.removed) → Inconsistent s
-  bad_table : record_verdict s.job.table ≢ Accepted → Inconsistent s
+  bad_table : record_verdict s.job.table ≢ Ok tt → Inconsistent s
   first_short : length s.first < pixels s.job → Inconsistent s
   second_short : length s.second < pixels s.job → Inconsistent s
   -- a present pixel above 1
@@ -47,7 +46,7 @@ pub record Ready (s : State) : Type 0 where
   pub begun : 1 ≤ s.job.stage
   pub staged : s.job.stage ≤ 2
   pub parts : bad_parts s.job ≡ false
-  pub table : record_verdict s.job.table ≡ Accepted
+  pub table : record_verdict s.job.table ≡ Ok tt
   pub first : pixels s.job ≤ length s.first
   pub second : pixels s.job ≤ length s.second
   pub binary : any (ltb 1) (image s) ≡ false

@@ -7,13 +7,12 @@
 --     source_read x n, source_area x area    what its reader answers on an area of n bytes, and leaves there
 -- Assumes nothing.
 use Rattle.std.specs.Prelude.{List, [], ◌∷◌, ℕ}
-use Rattle.image.specs.declared.ImageRead.{ImageRead}
-use Rattle.image.specs.File.{file_verdict, image_read, image_area, image_of}
+use Rattle.image.specs.File.{file_verdict, image_read, image_area, image_of, ImageRead}
 use Rattle.image.specs.Header.{width_of, height_of}
 use Rattle.image.specs.Majority.{majority_of, three_verdict, majority_read, majority_area}
 use Rattle.image.specs.declared.strip.Strip.{Strip}
 use Rattle.image.specs.Strip.{heights_of, strip_width, strip_height, strip_verdict, strip_read, strip_area}
-use Rattle.verdict.specs.declared.Verdict.{Verdict}
+use Rattle.verdict.specs.Rules.{Verdict}
 
 pub data Source : Type 0 where
   from_file : List ℕ → Source

@@ -22,8 +22,8 @@ use Rattle.history.specs.declared.Job.{Job}
 use Rattle.image.specs.Strip.{padded, strip_width, strip_height, shape_verdict, no_parts, no_counts}
 use Rattle.seq.specs.Lists.{any, all, sum_of, join}
 use Rattle.table.specs.Record.{zero_table, record_verdict}
-use Rattle.verdict.specs.declared.Verdict.{Verdict}
-use Rattle.verdict.specs.Rules.{refuse_if, judge, is_accepted}
+use Rattle.verdict.specs.Rules.{refuse_if, judge, is_accepted, Verdict}
+use Rattle.verdict.specs.declared.Rule.TheVariants as why
 
 pub record State : Type 0 where
   pub job : Job
@@ -86,10 +86,10 @@ unfoldable pub unsound : State → Bool
 unsound s = ltb 2 s.job.stage || cond (eqb s.job.stage 0) (nonzero s.job) (inconsistent s)
 
 abbrev pub sound_rule : State → Verdict
-sound_rule s = refuse_if (unsound s) 14 0
+sound_rule s = refuse_if (unsound s) why.Unsound 0
 
 abbrev pub loaded_rule : State → Verdict
-loaded_rule s = refuse_if (eqb s.job.stage 0) 16 0
+loaded_rule s = refuse_if (eqb s.job.stage 0) why.NothingLoaded 0
 
 unfoldable pub ready_verdict : State → Verdict
 ready_verdict s = judge (sound_rule s ∷ loaded_rule s ∷ [])

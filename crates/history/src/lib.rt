@@ -5,9 +5,10 @@ use image::strip::{PartCounts, Strip};
 use table::Table;
 use verdict::Refusal;
 
-// Stage 0 empty, 1 loaded, 2 stable (01: at rest). An empty record has every field zero. A single image has one part (02, T-08); places past the parts are 0.
+// The C interface's record, so its stage is a number: 0 empty, 1 loaded, 2 stable (01: at rest). An empty record has every field zero. A single image
+// has one part (02, T-08); places past the parts are 0.
 #[repr(C)]
-#[derive(Clone, Copy)]
+#[derive(Clone, Copy, PartialEq, Eq)]
 pub struct Job {
     pub stage: u8,
     pub width: usize,
@@ -20,24 +21,28 @@ pub struct Job {
     pub counts: PartCounts,
 }
 
-// What a pass or a run answers: 01's "changed", "at rest", or a refusal.
-#[derive(Clone, Copy)]
-pub enum Passed {
+// What a pass or a run did: 01's "changed" and "at rest".
+#[derive(Clone, Copy, PartialEq, Eq)]
+pub enum Effect {
     Changed,
     Stable,
-    Refused(Refusal),
 }
 
-#[derive(Clone, Copy)]
-pub enum Figured {
-    Figures { balance: i64, cover: usize },
-    Refused(Refusal),
+pub type Passed = Result<Effect, Refusal>;
+
+// Black now less black at load, and the black pixels in thousandths of all.
+#[derive(Clone, Copy, PartialEq, Eq)]
+pub struct Figures {
+    pub balance: i64,
+    pub cover: usize,
 }
+
+pub type Figured = Result<Figures, Refusal>;
 
 pub const MAX_CHANNELS: usize = 4;
 
 // An allowance of passes that up to four channels share (02, T-10: a round, its lanes). Each channel, counted from 1, has a reserve (02: its floor),
-// of which `left` is left; what the reserves leave of the allowance is the pool.
+// of which `left` is left; what the reserves leave of the allowance is the pool. The C interface has the struct as it is.
 #[repr(C)]
 #[derive(Clone, Copy)]
 pub struct Quota {

@@ -12,6 +12,7 @@ use Rattle.image.specs.File.{file_verdict, image_verdict, image_read, image_area
 use Rattle.image.specs.Header.{raster, header_form, width_of, height_of}
 use Rattle.image.specs.Ignored.{PaddingIgnored}
 use Rattle.image.specs.Padding.{cleared_byte, cleared_raster, cleared}
+use Rattle.verdict.specs.declared.Rule.TheVariants as why
 use Rattle.image.proofs.Facts.{file_numbers_lem}
 use Rattle.image.proofs.HeaderParts.{HeaderRead, header_same}
 use Rattle.image.proofs.Padding.{pixels_cleared}
@@ -62,7 +63,7 @@ same_image f g e =
 
 pub image_numbers : (f : List ℕ) (n : ℕ) → OneOf (9 ∷ 10 ∷ 11 ∷ 13 ∷ []) (image_verdict f n)
 unfolding image_verdict
-image_numbers f n = says_or (one_of_more (file_numbers_lem f) refl) (says_if (ltb n (width_of f * height_of f)) 13 0 (by refl))
+image_numbers f n = says_or (one_of_more (file_numbers_lem f) refl) (says_if (ltb n (width_of f * height_of f)) why.AreaShort 0 (by refl))
 
 same_answer : (f g : List ℕ) → cleared f ≡ cleared g → (n : ℕ) → image_read f n ≡ image_read g n
 unfolding image_read image_verdict

@@ -1,5 +1,7 @@
 pub mod Cases
 pub mod Parts
+pub mod Searches
+pub mod Cuts
 pub mod Shapes
 pub mod Digits
 pub mod NumberAt

@@ -4,6 +4,7 @@
 --     parts_back     so each file reads back as its part
 --     one_file       a single image has one file, its own
 -- Assumes nothing.
+use Rattle.std.specs.Prelude.{Ok}
 use mathlib.Core.Bool.{true}
 use mathlib.Core.List.{List, [], ◌∷◌, append-nil}
 use mathlib.Core.Path.{◌≡◌, sym, ap, ap₂, ◌∙◌}
@@ -21,7 +22,6 @@ use Rattle.image.proofs.PixelsOf.{good_pixels, binary_at}
 use Rattle.image.proofs.RoundTrip.{image_round_trip}
 use Rattle.image.proofs.Shapes.{sides_good, Listed}
 use Rattle.seq.specs.Lists.{all, sum_of}
-use Rattle.verdict.specs.declared.Verdict.TheVariants.{Accepted}
 
 pub part_file_lem : (w : ℕ) (hs px : List ℕ) (i : ℕ) → i < length hs
     → take (length (file_of w hs px i)) (drop (start_of w hs px i) (strip_bytes w hs px)) ≡ file_of w hs px i
@@ -56,7 +56,7 @@ module _ {w : ℕ} {hs : List ℕ} (g : Listed w hs) (px : List ℕ) (sized : le
   unfolding rows_of
   rows_small top n k m = rw (get_or-take (w * n) (drop (w * top) px) k 0 m, get_or-drop (w * top) px k 0) (binary_at px (w * top + k) binary)
 
-  pub part_good : (i : ℕ) → i < length hs → pixel_verdict w (get_or hs i 0) (part_of w hs i px) ≡ Accepted
+  pub part_good : (i : ℕ) → i < length hs → pixel_verdict w (get_or hs i 0) (part_of w hs i px) ≡ Ok tt
   part_good i l = good_pixels w (get_or hs i 0) (part_of w hs i px) (record {
     size = sides_good (record { wide = g.wide; narrow = g.narrow; tall = (g.rows i l).0; short = (g.rows i l).1 });
     count = rows_length w (above hs i) (get_or hs i 0) px (omega (arith, mul-le-mul_right w (part_ends hs i l), mul_comm w (above hs i + get_or hs i 0), mul_comm w (sum_of hs)));

@@ -58,7 +58,7 @@ module _ (w h : ℕ) (wide : 1 ≤ w) (px : List ℕ) where
         let byte = laid_at (row_bytes w) h (row_byte w px) row (col / 8) p (omega (arith, row_bytes_fit w)) in
         let k : 8 * (col / 8) + col % 8 ≡ col = omega arith in
         ap (λ (b : ℕ). b / 2 ^ (7 - col % 8) % 2) (byte ∙ sym (packed_bits v))
-        ∙ bits_at v (λ j. pixel_small bin (row * w) w (8 * (col / 8) + j)) 8 (col % 8) (omega arith)
+        ∙ bits_at v (λ j. pixel_small bin w row (8 * (col / 8) + j)) 8 (col % 8) (omega arith)
         ∙ ap (in_row w px row) k
         ∙ rw (lt-ltb col w q)
 

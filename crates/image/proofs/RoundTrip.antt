@@ -1,4 +1,5 @@
 -- Images there and back: the proof of specs/RoundTrip. Assumes nothing.
+use Rattle.std.specs.Prelude.{Ok}
 use mathlib.Core.Bool.{true}
 use mathlib.Core.List.{List, [], ◌∷◌, ◌++◌}
 use mathlib.Core.Path.{◌≡◌, sym, ap, ◌∙◌}
@@ -29,7 +30,6 @@ use Rattle.seq.proofs.Grid.{grid}
 use Rattle.seq.proofs.Lists.{and_left, and_right, any_none}
 use Rattle.seq.proofs.Tab.{length_tab, up_to_elim}
 use Rattle.seq.specs.Tab.{up_to}
-use Rattle.verdict.specs.declared.Verdict.TheVariants.{Accepted}
 
 -- bytes are below 256, and past them stands 0
 byte_below : (f : List ℕ) → are_bytes f ≡ true → (i : ℕ) → get_or f i 0 < 256
@@ -101,7 +101,7 @@ checked f a = record {
   small = λ i l. binary_at (image_of f) i a.binary;
 }
 
-back_only : (f : List ℕ) → file_verdict f ≡ Accepted → image_bytes (width_of f) (height_of f) (image_of f) ≡ f → unused_zero f ≡ true
+back_only : (f : List ℕ) → file_verdict f ≡ Ok tt → image_bytes (width_of f) (height_of f) (image_of f) ≡ f → unused_zero f ≡ true
 back_only f e q = ap unused_zero (sym q) ∙ zeros (width_of f) (height_of f) (image_of f) (checked f (accepted_file f e))
 
 pub image_round_trip : ImageRoundTrip

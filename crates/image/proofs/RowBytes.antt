@@ -1,7 +1,6 @@
 -- The laws of sizes and of the bytes of a row.
 --     row_bytes_fit     they hold the row's pixels, with fewer than eight bits to spare
 --     area_few, pixels_few, raster_few    an image has at most max_pixels pixels, and its raster at most max_raster bytes
---     strip_few         a strip has at most as many as its rows of the greatest width
 --     within_range, range_within     a number within a limit, as orders
 --     sides             what a size that rule 10 lets pass is
 -- Assumes nothing.
@@ -13,7 +12,6 @@ use native.Mathlib.Omega.{arith}
 use borrow.Author.Tests.{not-false}
 use Rattle.image.specs.Code.Rows.{Sides}
 use Rattle.image.specs.Size.{max_side, max_pixels, max_raster, within, bad_size, row_bytes}
-use Rattle.image.specs.Strip.{max_rows}
 use Rattle.seq.proofs.Lists.{and_left, and_right}
 use Rattle.seq.proofs.Tests.{between, in_range}
 
@@ -26,9 +24,6 @@ area_few a b = mul-le-mul a b
 
 pub pixels_few : {w h : ℕ} → Sides w h → w * h ≤ max_pixels
 pixels_few s = area_few s.narrow s.short
-
-pub strip_few : {w h : ℕ} → w ≤ max_side → h ≤ max_rows → w * h ≤ max_side * max_rows
-strip_few a b = mul-le-mul a b
 
 pub raster_few : {w h b : ℕ} → Sides w h → b ≡ row_bytes w → b * h ≤ max_raster
 raster_few {w} {h} {b} s e = rows (omega (arith, row_bytes_fit w, s.narrow)) s.short

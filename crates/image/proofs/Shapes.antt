@@ -10,6 +10,7 @@
 --     padded_tab, padded_whole                 16 places as they are
 --     kept_strip                               an accepted strip with zeros past its number is the record of its parts
 -- Assumes nothing.
+use Rattle.std.specs.Prelude.{Ok}
 use mathlib.Core.Bool.{true, false, not}
 use mathlib.Core.List.{List, [], ◌∷◌}
 use mathlib.Core.Logic.{⊎_elim}
@@ -24,6 +25,7 @@ use Rattle.image.specs.Code.Rows.{Sides}
 use Rattle.image.specs.declared.strip.Strip.{Strip}
 use Rattle.image.specs.Size.{max_side, within, bad_size}
 use Rattle.image.specs.Strip.{max_parts, max_rows, heights_of, strip_width, strip_height, shape_verdict, padded, strip_of, kept}
+use Rattle.verdict.specs.declared.Rule.TheVariants as why
 use Rattle.image.proofs.RowBytes.{sides}
 use Rattle.seq.proofs.Joins.{take_tab, past_zeros}
 use Rattle.seq.proofs.Lists.{and_intro}
@@ -31,7 +33,6 @@ use Rattle.seq.proofs.Tab.{get_d_tab, tab_ext, tab_get_d, first_none, first_noth
 use Rattle.seq.proofs.Tests.{between, in_range, lt_or_le}
 use Rattle.seq.specs.Lists.{all, sum_of}
 use Rattle.seq.specs.Tab.{tab, first}
-use Rattle.verdict.specs.declared.Verdict.TheVariants.{Accepted}
 use Rattle.verdict.specs.Rules.{refuse_if, refuse_at}
 use Rattle.verdict.proofs.Rules.{or_else_left, or_else_right, refuse_if_accepted, refuse_at_accepted}
 
@@ -60,14 +61,14 @@ pub record Shape (p : Strip) : Type 0 where
   pub sized : (i : ℕ) → i < p.parts → Sides (get_or p.widths i 0) (get_or p.heights i 0)
   pub one_width : (i : ℕ) → i < p.parts → get_or p.widths i 0 ≡ strip_width p
 
-pub shape_good : (p : Strip) → shape_verdict p ≡ Accepted → Shape p
+pub shape_good : (p : Strip) → shape_verdict p ≡ Ok tt → Shape p
 unfolding shape_verdict within
 shape_good p e =
-    let number = not-false _ (refuse_if_accepted _ 23 0 (or_else_left _ _ e)) in
-    let e₁ = or_else_right (refuse_if (not (within max_parts p.parts)) 23 0) _ e in
-    let sizes = refuse_at_accepted (first (λ i. bad_size (get_or p.widths i 0) (get_or p.heights i 0)) p.parts) 10 suc (or_else_left _ _ e₁) in
-    let e₂ = or_else_right (refuse_at (first (λ i. bad_size (get_or p.widths i 0) (get_or p.heights i 0)) p.parts) 10 suc) _ e₁ in
-    let widths = refuse_at_accepted (first (λ i. not (eqb (get_or p.widths i 0) (strip_width p))) p.parts) 23 suc (or_else_left _ _ e₂) in
+    let number = not-false _ (refuse_if_accepted _ why.Parts 0 (or_else_left _ _ e)) in
+    let e₁ = or_else_right (refuse_if (not (within max_parts p.parts)) why.Parts 0) _ e in
+    let sizes = refuse_at_accepted (first (λ i. bad_size (get_or p.widths i 0) (get_or p.heights i 0)) p.parts) why.SizeRange suc (or_else_left _ _ e₁) in
+    let e₂ = or_else_right (refuse_at (first (λ i. bad_size (get_or p.widths i 0) (get_or p.heights i 0)) p.parts) why.SizeRange suc) _ e₁ in
+    let widths = refuse_at_accepted (first (λ i. not (eqb (get_or p.widths i 0) (strip_width p))) p.parts) why.Parts suc (or_else_left _ _ e₂) in
     record {
       some = (between 1 p.parts max_parts number).0;
       few = (between 1 p.parts max_parts number).1;
@@ -75,7 +76,7 @@ shape_good p e =
       one_width = λ i l. eqb-true _ _ (not-false _ (first_nothing (λ i. not (eqb (get_or p.widths i 0) (strip_width p))) p.parts widths i l));
     }
 
-pub good_shape : (p : Strip) → Shape p → shape_verdict p ≡ Accepted
+pub good_shape : (p : Strip) → Shape p → shape_verdict p ≡ Ok tt
 unfolding shape_verdict within
 good_shape p g =
     simp (
@@ -179,7 +180,7 @@ module _ {w : ℕ} {hs : List ℕ} (g : Listed w hs) where
   unfolding strip_of
   of_heights_past = past_padded hs
 
-pub kept_strip : (p : Strip) → shape_verdict p ≡ Accepted → kept p ≡ strip_of (strip_width p) (heights_of p)
+pub kept_strip : (p : Strip) → shape_verdict p ≡ Ok tt → kept p ≡ strip_of (strip_width p) (heights_of p)
 unfolding kept strip_of
 kept_strip p e =
     ap₂ (λ (n : ℕ) (ws : List ℕ). record { parts = n; widths = ws; heights = padded (heights_of p) }) (sym (shape_count g))

@@ -1,12 +1,12 @@
 -- Where the walks over the parts of a strip stand.
 --     each_rows, rows_each     the test of each height, as orders
 --     part_sides         a part's size is within the limits
---     part_below, part_length, part_binary     a part's pixels lie among those of the strip, and are as many as are due, and 0 or 1
+--     part_below, part_binary     a part's pixels lie among those of the strip, and are 0 or 1
 --     files_alike        the length of the files does not hang on the pixels
 --     file_few, files_few     how long they are at most
 --     files_next         the files that are left: that of the part at hand, and those behind it
---     Measured           the lengths of the parts' files, added up; measured_none, measured_fits, measured_more, measured_all
---     PartsPut           the files of the parts passed are written; put_none, put-fits, put_more, put_all
+--     Measured           the lengths of the parts' files, added up; measured_fits, measured_more
+--     PartsPut           the files of the parts passed are written; put_source, put_target, put_more, put_all
 -- Assumes nothing.
 use mathlib.Core.Bool.{true}
 use mathlib.Core.List.{List, [], ◌∷◌, ◌++◌}
@@ -16,7 +16,7 @@ use Prim.Native.Nat.{ℕ, suc, ◌+◌, ◌-◌, ◌*◌, ◌≤◌, ◌<◌}
 use native.Mathlib.Nat.{mul-le-mul_left}
 use native.Mathlib.Numerals.{add-one}
 use native.Mathlib.Omega.{arith}
-use lib.ListN.{length, get_or, take, drop, length-append, length-take, length-drop, drop_of_length-le, get_or-eq_default}
+use lib.ListN.{length, get_or, take, drop, length-append, length-take, drop_of_length-le, get_or-eq_default}
 use lib.Seq.{drop-cons, drop-drop, get_or-take, get_or-drop, sets, length-sets}
 use Rattle.image.specs.Code.Rows.{Sides, Binary}
 use Rattle.image.specs.Code.Strip.{Heights}
@@ -54,10 +54,6 @@ part_sides hs p q g i l = let b = each_rows hs g.each i l in record { wide = p; 
 
 pub part_below : (w : ℕ) (hs : List ℕ) (i : ℕ) → i < length hs → w * above hs i + w * get_or hs i 0 ≤ w * sum_of hs
 part_below w hs i l = omega (arith, mul-le-mul_left w (part_ends hs i l))
-
--- as the code cuts a part out
-pub part_length : (n from : ℕ) (px : List ℕ) → from + n ≤ length px → length (take (from + n - from) (drop from px)) ≡ n
-part_length n from px h = simp (length-take, length-drop) (omega arith)
 
 pub part_binary : (n from : ℕ) {px : List ℕ} → Binary px → Binary (take n (drop from px))
 part_binary n from {px} b = record { small = λ i. ⊎_elim (inner i) (past i) (lt_or_le i n) }
@@ -115,9 +111,6 @@ pub record Measured (w : ℕ) (hs : List ℕ) (bytes i : ℕ) : Type 0 where
   pub within : i ≤ length hs
   pub left : (px : List ℕ) → bytes + length (strip_bytes w (drop i hs) px) ≡ length (strip_bytes w hs px)
 
-pub measured_none : (w : ℕ) (hs : List ℕ) → Measured w hs 0 0
-measured_none w hs = record { within = omega arith; left = λ px. omega arith }
-
 module _ {w : ℕ} {hs : List ℕ} {bytes i : ℕ} (s : Measured w hs bytes i) where
   module _ {n : ℕ} (e : (px : List ℕ) → n ≡ length (image_bytes w (get_or hs i 0) px)) (l : i < length hs) where
     pub measured_fits : 1 ≤ w → w ≤ max_side → Heights hs → bytes + n ≤ max_parts * 8203
@@ -126,9 +119,6 @@ module _ {w : ℕ} {hs : List ℕ} {bytes i : ℕ} (s : Measured w hs bytes i) w
     pub measured_more : Measured w hs (bytes + n) (i + 1)
     measured_more = record { within = omega arith; left = λ px. omega (arith, next_length w hs i l px (e _), s.left px) }
 
-  pub measured_all : length hs ≤ i → (px : List ℕ) → bytes ≡ length (strip_bytes w hs px)
-  measured_all l px = omega (arith, s.left px, ap (λ (t : List ℕ). length (strip_bytes w t px)) (drop_of_length-le hs l))
-
 -- what is stored from here on is what was to be stored from the front
 pub record PartsPut (w : ℕ) (hs px d out : List ℕ) (from to i : ℕ) : Type 0 where
   pub within : i ≤ length hs
@@ -136,9 +126,6 @@ pub record PartsPut (w : ℕ) (hs px d out : List ℕ) (from to i : ℕ) : Type 
   pub target : to + length (strip_bytes w (drop i hs) (drop from px)) ≡ length (strip_bytes w hs px)
   pub long : length out ≡ length d
   pub left : sets out to (strip_bytes w (drop i hs) (drop from px)) ≡ sets d 0 (strip_bytes w hs px)
-
-pub put_none : (w : ℕ) (hs px d : List ℕ) → PartsPut w hs px d d 0 0 0
-put_none w hs px d = record { within = omega arith; source = omega arith; target = omega arith; long = refl; left = refl }
 
 module _ {w : ℕ} {hs px d out : List ℕ} {from to i : ℕ} (s : PartsPut w hs px d out from to i) where
   module _ (l : i < length hs) where

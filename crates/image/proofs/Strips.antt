@@ -2,8 +2,9 @@
 --     heights_good                the parts' heights, as the walks over them want them
 --     StripGood, strip_good, good_strip     an accepted strip with its bytes, and an accepted one from its rules
 --     strip_binary                      every pixel of it is 0 or 1
---     shape_says, bytes_says, strip_says, shape_numbers, strip_numbers     what a strip is refused by, and by which numbers
+--     shape_says, bytes_says, strip_says, strip_numbers     what a strip is refused by, and by which numbers
 -- Assumes nothing.
+use Rattle.std.specs.Prelude.{Ok}
 use mathlib.Core.Bool.{Bool, true, not}
 use mathlib.Core.List.{List, [], ◌∷◌}
 use mathlib.Core.Path.{◌≡◌, refl}
@@ -18,6 +19,7 @@ use Rattle.image.specs.Code.Strip.{Heights}
 use Rattle.image.specs.File.{bytes_verdict}
 use Rattle.image.specs.Size.{within, bad_size}
 use Rattle.image.specs.Strip.{max_parts, heights_of, strip_width, strip_height, shape_verdict, strip_verdict}
+use Rattle.verdict.specs.declared.Rule.TheVariants as why
 use Rattle.image.proofs.PixelsOf.{BytesGood, bytes_good, good_bytes}
 use Rattle.image.proofs.Shapes.{Shape, shape_good, good_shape, shape_count, shape_heights}
 use Rattle.image.proofs.StripLoops.{rows_each}
@@ -26,7 +28,6 @@ use Rattle.seq.proofs.Tab.{tab_get_d}
 use Rattle.seq.specs.Lists.{all}
 use Rattle.seq.specs.Tab.{first}
 use Rattle.verdict.specs.declared.Refusal.{Refusal}
-use Rattle.verdict.specs.declared.Verdict.TheVariants.{Accepted}
 use Rattle.verdict.specs.Numbers.{Says, accepts, by, OneOf}
 use Rattle.verdict.specs.Rules.{refusal}
 use Rattle.verdict.proofs.Numbers.{says_if, says_at, says_or}
@@ -47,11 +48,11 @@ pub record StripGood (p : Strip) (px : List ℕ) : Type 0 where
   pub bytes : BytesGood (strip_width p) (strip_height p) px
 
 module _ (p : Strip) (px : List ℕ) where
-  pub strip_good : strip_verdict p px ≡ Accepted → StripGood p px
+  pub strip_good : strip_verdict p px ≡ Ok tt → StripGood p px
   unfolding strip_verdict
   strip_good e = record { shape = shape_good p (or_else_left _ _ e); bytes = bytes_good (strip_width p) (strip_height p) px (or_else_right (shape_verdict p) _ e) }
 
-  pub good_strip : StripGood p px → strip_verdict p px ≡ Accepted
+  pub good_strip : StripGood p px → strip_verdict p px ≡ Ok tt
   unfolding strip_verdict
   good_strip g = rw (good_shape p g.shape) (good_bytes (strip_width p) (strip_height p) px g.bytes)
 
@@ -59,24 +60,21 @@ pub strip_binary : {p : Strip} {px : List ℕ} → StripGood p px → all (λ v.
 strip_binary {px = px} g =
     rw (tab_get_d px 0) at (all_tab (λ v. leb v 1) (λ i. get_or px i 0) (length px) (λ i l. le-leb _ 1 (g.bytes.small i (omega (arith, g.bytes.count)))))
 
-pub shape_says : {P : Refusal → Type 0} (p : Strip) → ((place : ℕ) → P (refusal 10 place)) → ((place : ℕ) → P (refusal 23 place)) → Says P (shape_verdict p)
+pub shape_says : {P : Refusal → Type 0} (p : Strip) → ((place : ℕ) → P (refusal why.SizeRange place)) → ((place : ℕ) → P (refusal why.Parts place)) → Says P (shape_verdict p)
 unfolding shape_verdict
 shape_says p a b =
-    says_or (says_if (not (within max_parts p.parts)) 23 0 (b 0))
-    (says_or (says_at (first (bad_part p) p.parts) 10 suc a) (says_or (says_at (first (width_differs p) p.parts) 23 suc b) accepts))
+    says_or (says_if (not (within max_parts p.parts)) why.Parts 0 (b 0))
+    (says_or (says_at (first (bad_part p) p.parts) why.SizeRange suc a) (says_or (says_at (first (width_differs p) p.parts) why.Parts suc b) accepts))
 
-pub bytes_says : {P : Refusal → Type 0} (w h : ℕ) (px : List ℕ) → P (refusal 11 0) → ((place : ℕ) → P (refusal 12 place)) → Says P (bytes_verdict w h px)
+pub bytes_says : {P : Refusal → Type 0} (w h : ℕ) (px : List ℕ) → P (refusal why.RasterLength 0) → ((place : ℕ) → P (refusal why.PixelValue place)) → Says P (bytes_verdict w h px)
 unfolding bytes_verdict
 bytes_says w h px a b =
-    says_or (says_if (not (eqb (length px) (w * h))) 11 0 a) (says_or (says_at (first (too_large px) (w * h)) 12 (λ i. i / w) b) accepts)
+    says_or (says_if (not (eqb (length px) (w * h))) why.RasterLength 0 a) (says_or (says_at (first (too_large px) (w * h)) why.PixelValue (λ i. i / w) b) accepts)
 
-pub strip_says : {P : Refusal → Type 0} (p : Strip) (px : List ℕ) → ((place : ℕ) → P (refusal 10 place)) → P (refusal 11 0) → ((place : ℕ) → P (refusal 12 place))
-    → ((place : ℕ) → P (refusal 23 place)) → Says P (strip_verdict p px)
+pub strip_says : {P : Refusal → Type 0} (p : Strip) (px : List ℕ) → ((place : ℕ) → P (refusal why.SizeRange place)) → P (refusal why.RasterLength 0) → ((place : ℕ) → P (refusal why.PixelValue place))
+    → ((place : ℕ) → P (refusal why.Parts place)) → Says P (strip_verdict p px)
 unfolding strip_verdict
 strip_says p px a b c d = says_or (shape_says p a d) (bytes_says (strip_width p) (strip_height p) px b c)
-
-pub shape_numbers : (p : Strip) → OneOf (10 ∷ 23 ∷ []) (shape_verdict p)
-shape_numbers p = shape_says p (λ k. by refl) (λ k. by refl)
 
 pub strip_numbers : (p : Strip) (px : List ℕ) → OneOf (10 ∷ 11 ∷ 12 ∷ 23 ∷ []) (strip_verdict p px)
 strip_numbers p px = strip_says p px (λ k. by refl) (by refl) (λ k. by refl) (λ k. by refl)

@@ -1,13 +1,13 @@
 -- Three files that are read into one image.
---     combined                          a loop that puts the majority of three rasters at the front of an array
 --     first_refused, second_refused, third_refused, second_differs, third_differs, one_size     what is found of the files, one after the other
 --     ThreeGood, three_good, three_says     what three accepted files have shown; what they are refused by
---     last_length, combined_front       the ends of files, and the majority of three of them
+--     last_length                       the end of a file
 --     Ends, three_sides, first_ends, second_ends, third_ends     the size that was found, and the files by it
 --     three_refused, three_counted, three_read     what the reader answers and leaves in the area
 --     majority_same                     the majority of one image three times is that image
 --     pixels_majority                   the pixels of the majority of three rasters are the majority of their pixels
 -- Assumes nothing.
+use Rattle.std.specs.Prelude.{Ok, Err}
 use mathlib.Core.Bool.{Bool, true, false, not, ◌&&◌}
 use mathlib.Core.List.{List, [], ◌∷◌}
 use mathlib.Core.Logic.{⊎_elim}
@@ -17,83 +17,75 @@ use native.Mathlib.Omega.{arith}
 use borrow.Author.Tests.{eqb-true, leb-true, leb-false, not-false}
 use lib.Bits.{bit_and, bit_or}
 use lib.Dec.{leb, eqb}
-use lib.ListN.{length, get_or, take, length-drop}
-use Rattle.image.specs.declared.ImageRead.{ImageRead}
-use Rattle.image.specs.declared.ImageRead.TheVariants as read
+use lib.ListN.{length, get_or, length-drop}
+use Rattle.image.specs.declared.size.Size.{Size}
 use Rattle.image.specs.Code.Layout.{raster_start}
 use Rattle.image.specs.Code.Rows.{Sides}
 use Rattle.image.specs.Code.Three.{size_of, size_of_three, last_bytes, majority_byte, majority_bytes}
-use Rattle.image.specs.File.{raster_pixel, pixels_of, image_of, file_verdict, area_rule, read_as}
+use Rattle.image.specs.File.{raster_pixel, pixels_of, image_of, file_verdict, area_rule, read_as, ImageRead}
 use Rattle.image.specs.Header.{raster, width_of, height_of}
 use Rattle.image.specs.Majority.{majority_at, majority_of, size_differs, three_verdict, majority_verdict, majority_read, majority_area}
 use Rattle.image.specs.Size.{row_bytes}
+use Rattle.verdict.specs.declared.Rule.TheVariants as why
 use Rattle.image.proofs.Facts.{FileGood, file_good, file_says}
 use Rattle.image.proofs.HeaderOf.{raster_place}
 use Rattle.image.proofs.LayoutOf.{start_within}
 use Rattle.image.proofs.PixelsOf.{binary_at}
 use Rattle.image.proofs.RowBytes.{row_bytes_fit, sides}
 use Rattle.seq.specs.Lists.{all}
-use Rattle.seq.specs.Tab.{tab, Filled}
+use Rattle.seq.specs.Tab.{tab}
 use Rattle.seq.proofs.Bits.{and_digit, or_digit}
 use Rattle.seq.proofs.Grid.{cell_below, grid, grid_ext}
 use Rattle.seq.proofs.Lists.{and_left, and_right, either}
 use Rattle.seq.proofs.Tab.{length_tab, get_d_tab, tab_ext, tab_get_d}
 use Rattle.verdict.specs.declared.Refusal.{Refusal}
-use Rattle.verdict.specs.declared.Verdict.{Verdict}
-use Rattle.verdict.specs.declared.Verdict.TheVariants.{Accepted, Refused}
 use Rattle.verdict.specs.Numbers.{Says, accepts}
-use Rattle.verdict.specs.Rules.{refusal, refuse_if, judge}
-use Rattle.verdict.specs.Writer.{over, output_of}
+use Rattle.verdict.specs.Rules.{refusal, refuse_if, judge, Verdict}
+use Rattle.verdict.specs.Writer.{output_of}
 use Rattle.verdict.proofs.Numbers.{says_if, says_or}
 use Rattle.verdict.proofs.Rules.{or_else_left, or_else_right, refuse_if_accepted}
-use Rattle.verdict.proofs.Writer.{take_over, filled_over}
-
-pub combined : (r s t : List ℕ) {out₀ out : List ℕ} {i : ℕ} → i ≡ length r
-    → Filled (λ k. majority_byte (get_or r k 0) (get_or s k 0) (get_or t k 0)) out₀ out i → out ≡ over (majority_bytes r s t) out₀
-unfolding majority_bytes
-combined r s t e f = filled_over f ∙ rw e
 
 -- what an answer says of the verdict and the size that it was made of
-record Sized (v : Verdict) (f : List ℕ) (w h : ℕ) : Type 0 where
-  accepted : v ≡ Accepted
-  width : width_of f ≡ w
-  height : height_of f ≡ h
+record Sized (v : Verdict) (f : List ℕ) (s : Size) : Type 0 where
+  accepted : v ≡ Ok tt
+  width : width_of f ≡ s.width
+  height : height_of f ≡ s.height
 
-by_size : (v : Verdict) (f : List ℕ) {w h : ℕ} → read_as v (width_of f) (height_of f) ≡ read.Size w h → Sized v f w h
-by_size Accepted f e = record { accepted = refl; width = cc; height = cc }
-by_size (Refused r) f e = absurd (let z : ◌≡◌ {A = ℕ} 0 1 = cc in omega arith)
+by_size : (v : Verdict) (f : List ℕ) {s : Size} → read_as v (width_of f) (height_of f) ≡ Ok s → Sized v f s
+by_size (Ok _) f e = record { accepted = refl; width = cc; height = cc }
+by_size (Err r) f e = cc
 
-by_refusal : (v : Verdict) (f : List ℕ) {r : Refusal} → read_as v (width_of f) (height_of f) ≡ read.Refused r → v ≡ Refused r
-by_refusal Accepted f e = absurd (let z : ◌≡◌ {A = ℕ} 0 1 = cc in omega arith)
-by_refusal (Refused q) f e = cc
+by_refusal : (v : Verdict) (f : List ℕ) {r : Refusal} → read_as v (width_of f) (height_of f) ≡ Err r → v ≡ Err r
+by_refusal (Ok _) f e = cc
+by_refusal (Err q) f e = cc
 
-sized : (f : List ℕ) {w h : ℕ} → size_of f ≡ read.Size w h → Sized (file_verdict f) f w h
+sized : (f : List ℕ) {s : Size} → size_of f ≡ Ok s → Sized (file_verdict f) f s
 unfolding size_of
 sized f e = by_size (file_verdict f) f e
 
-refused : (f : List ℕ) {r : Refusal} → size_of f ≡ read.Refused r → file_verdict f ≡ Refused r
+refused : (f : List ℕ) {r : Refusal} → size_of f ≡ Err r → file_verdict f ≡ Err r
 unfolding size_of
 refused f e = by_refusal (file_verdict f) f e
 
 module _ (f g h : List ℕ) where
-  pub first_refused : {r : Refusal} → size_of f ≡ read.Refused r → size_of f ≡ size_of_three f g h
+  pub first_refused : {r : Refusal} → size_of f ≡ Err r → Err r ≡ size_of_three f g h
   unfolding size_of_three three_verdict
-  first_refused p = p ∙ rw (refused f p)
+  first_refused p = rw (refused f p)
 
-  module _ {w l : ℕ} (p : size_of f ≡ read.Size w l) where
-    pub second_refused : {r : Refusal} → size_of g ≡ read.Refused r → size_of g ≡ size_of_three f g h
+  module _ {s₁ : Size} (p : size_of f ≡ Ok s₁) where
+    pub second_refused : {r : Refusal} → size_of g ≡ Err r → Err r ≡ size_of_three f g h
     unfolding size_of_three three_verdict
-    second_refused q = q ∙ rw ((sized f p).accepted, refused g q)
+    second_refused q = rw ((sized f p).accepted, refused g q)
 
-    module _ {w₂ l₂ : ℕ} (q : size_of g ≡ read.Size w₂ l₂) where
-      pub third_refused : {r : Refusal} → size_of h ≡ read.Refused r → size_of h ≡ size_of_three f g h
+    module _ {s₂ : Size} (q : size_of g ≡ Ok s₂) where
+      pub third_refused : {r : Refusal} → size_of h ≡ Err r → Err r ≡ size_of_three f g h
       unfolding size_of_three three_verdict
-      third_refused e = e ∙ rw ((sized f p).accepted, (sized g q).accepted, refused h e)
+      third_refused e = rw ((sized f p).accepted, (sized g q).accepted, refused h e)
 
-      module _ {w₃ l₃ : ℕ} (r : size_of h ≡ read.Size w₃ l₃) where
+      module _ {s₃ : Size} (r : size_of h ≡ Ok s₃) where
         -- by the two tests of sizes
-        by_sizes : (a b : Bool) → (eqb w₂ w && eqb l₂ l) ≡ a → (eqb w₃ w && eqb l₃ l) ≡ b
-            → size_of_three f g h ≡ read_as (judge (refuse_if (not a) 26 2 ∷ refuse_if (not b) 26 3 ∷ [])) w l
+        by_sizes : (a b : Bool) → not (eqb s₂.width s₁.width && eqb s₂.height s₁.height) ≡ a → not (eqb s₃.width s₁.width && eqb s₃.height s₁.height) ≡ b
+            → size_of_three f g h ≡ read_as (judge (refuse_if a why.SizesDiffer 2 ∷ refuse_if b why.SizesDiffer 3 ∷ [])) s₁.width s₁.height
         unfolding size_of_three three_verdict
         by_sizes a b x y =
             let s = sized f p in
@@ -101,15 +93,15 @@ module _ (f g h : List ℕ) where
             let u = sized h r in
             rw (s.accepted, t.accepted, u.accepted, s.width, s.height, t.width, t.height, u.width, u.height, x, y)
 
-        pub second_differs : (eqb w₂ w && eqb l₂ l) ≡ false → read.Refused (refusal 26 2) ≡ size_of_three f g h
-        second_differs x = sym (by_sizes false _ x refl)
+        pub second_differs : not (eqb s₂.width s₁.width && eqb s₂.height s₁.height) ≡ true → Err (refusal why.SizesDiffer 2) ≡ size_of_three f g h
+        second_differs x = sym (by_sizes true _ x refl)
 
-        module _ (same : (eqb w₂ w && eqb l₂ l) ≡ true) where
-          pub third_differs : (eqb w₃ w && eqb l₃ l) ≡ false → read.Refused (refusal 26 3) ≡ size_of_three f g h
-          third_differs y = sym (by_sizes true false same y)
+        module _ (same : not (eqb s₂.width s₁.width && eqb s₂.height s₁.height) ≡ false) where
+          pub third_differs : not (eqb s₃.width s₁.width && eqb s₃.height s₁.height) ≡ true → Err (refusal why.SizesDiffer 3) ≡ size_of_three f g h
+          third_differs y = sym (by_sizes false true same y)
 
-          pub one_size : (eqb w₃ w && eqb l₃ l) ≡ true → read.Size w l ≡ size_of_three f g h
-          one_size y = sym (by_sizes true true same y)
+          pub one_size : not (eqb s₃.width s₁.width && eqb s₃.height s₁.height) ≡ false → Ok s₁ ≡ size_of_three f g h
+          one_size y = sym (by_sizes false false same y)
 
 majority_tab : (f g k : ℕ → ℕ) (n : ℕ) → majority_of (tab f n) (tab g n) (tab k n) ≡ tab (λ i. majority_at (f i) (g i) (k i)) n
 unfolding majority_of
@@ -158,9 +150,9 @@ module _ (w h : ℕ) (r s t : List ℕ) (long : length r ≡ row_bytes w * h) wh
 
 -- what an accepted triple has shown
 pub record ThreeGood (f g h : List ℕ) : Type 0 where
-  pub first : file_verdict f ≡ Accepted
-  pub second : file_verdict g ≡ Accepted
-  pub third : file_verdict h ≡ Accepted
+  pub first : file_verdict f ≡ Ok tt
+  pub second : file_verdict g ≡ Ok tt
+  pub third : file_verdict h ≡ Ok tt
   pub second_size : (width_of g ≡ width_of f) × (height_of g ≡ height_of f)
   pub third_size : (width_of h ≡ width_of f) × (height_of h ≡ height_of f)
 
@@ -169,40 +161,33 @@ same_size g f e =
     let both = not-false (eqb (width_of g) (width_of f) && eqb (height_of g) (height_of f)) e in
     (eqb-true _ _ (and_left (eqb (width_of g) (width_of f)) _ both), eqb-true _ _ (and_right (eqb (width_of g) (width_of f)) _ both))
 
-pub three_good : (f g h : List ℕ) → three_verdict f g h ≡ Accepted → ThreeGood f g h
+pub three_good : (f g h : List ℕ) → three_verdict f g h ≡ Ok tt → ThreeGood f g h
 unfolding three_verdict
 three_good f g h e =
     let e₁ = or_else_right (file_verdict f) _ e in
     let e₂ = or_else_right (file_verdict g) _ e₁ in
     let e₃ = or_else_right (file_verdict h) _ e₂ in
-    let e₄ = or_else_right (refuse_if (size_differs g f) 26 2) _ e₃ in
+    let e₄ = or_else_right (refuse_if (size_differs g f) why.SizesDiffer 2) _ e₃ in
     record {
       first = or_else_left (file_verdict f) _ e;
       second = or_else_left (file_verdict g) _ e₁;
       third = or_else_left (file_verdict h) _ e₂;
-      second_size = same_size g f (refuse_if_accepted (size_differs g f) 26 2 (or_else_left _ _ e₃));
-      third_size = same_size h f (refuse_if_accepted (size_differs h f) 26 3 (or_else_left _ _ e₄));
+      second_size = same_size g f (refuse_if_accepted (size_differs g f) why.SizesDiffer 2 (or_else_left _ _ e₃));
+      third_size = same_size h f (refuse_if_accepted (size_differs h f) why.SizesDiffer 3 (or_else_left _ _ e₄));
     }
 
-pub three_says : {P : Refusal → Type 0} (f g h : List ℕ) → P (refusal 9 0) → P (refusal 10 0) → P (refusal 11 0) → P (refusal 26 2) → P (refusal 26 3)
+pub three_says : {P : Refusal → Type 0} (f g h : List ℕ) → P (refusal why.HeaderForm 0) → P (refusal why.SizeRange 0) → P (refusal why.RasterLength 0) → P (refusal why.SizesDiffer 2) → P (refusal why.SizesDiffer 3)
     → Says P (three_verdict f g h)
 unfolding three_verdict
 three_says f g h a b c d e =
     says_or (file_says f a b c)
     (says_or (file_says g a b c)
     (says_or (file_says h a b c)
-    (says_or (says_if (size_differs g f) 26 2 d) (says_or (says_if (size_differs h f) 26 3 e) accepts))))
+    (says_or (says_if (size_differs g f) why.SizesDiffer 2 d) (says_or (says_if (size_differs h f) why.SizesDiffer 3 e) accepts))))
 
 pub last_length : (n : ℕ) (f : List ℕ) → n ≤ length f → length (last_bytes n f) ≡ n
 unfolding last_bytes
 last_length n f l = length-drop (length f - n) f ∙ omega arith
-
--- the majority of such ends, at the front of an array, is read back
-pub combined_front : (n : ℕ) (f g h array : List ℕ) {r s t out : List ℕ} → n ≤ length f → r ≡ last_bytes n f → s ≡ last_bytes n g → t ≡ last_bytes n h
-    → out ≡ over (majority_bytes r s t) array → take n out ≡ majority_bytes (last_bytes n f) (last_bytes n g) (last_bytes n h)
-unfolding majority_bytes
-combined_front n f g h array l p q r e =
-    rw (e, p, q, r) (take_over _ array n (length_tab _ (length (last_bytes n f)) ∙ last_length n f l))
 
 -- a file of the size that was found: its raster is what it ends with
 pub record Ends (f : List ℕ) (w l : ℕ) : Type 0 where
@@ -211,7 +196,7 @@ pub record Ends (f : List ℕ) (w l : ℕ) : Type 0 where
   pub last : last_bytes (row_bytes w * l) f ≡ raster f
   pub pixels : image_of f ≡ pixels_of w l (raster f)
 
-ends : (f : List ℕ) {w l : ℕ} → file_verdict f ≡ Accepted → width_of f ≡ w → height_of f ≡ l → Ends f w l
+ends : (f : List ℕ) {w l : ℕ} → file_verdict f ≡ Ok tt → width_of f ≡ w → height_of f ≡ l → Ends f w l
 unfolding image_of last_bytes
 ends f {w} {l} ok p q = record { long = omega (arith, counted, start, within); counted = counted; last = last; pixels = rw (p, q) }
   where
@@ -230,8 +215,14 @@ ends f {w} {l} ok p q = record { long = omega (arith, counted, start, within); c
     last : last_bytes (row_bytes w * l) f ≡ raster f
     last = let k : length f - row_bytes w * l ≡ raster_start f = omega (arith, counted, start, within) in rw k (sym (raster_place f))
 
-module _ (f g h : List ℕ) {w l : ℕ} (found : size_of_three f g h ≡ read.Size w l) where
-  agreed : Sized (three_verdict f g h) f w l
+module _ (f g h : List ℕ) {s : Size} (found : size_of_three f g h ≡ Ok s) where
+  abbrev w : ℕ
+  w = s.width
+
+  abbrev l : ℕ
+  l = s.height
+
+  agreed : Sized (three_verdict f g h) f s
   unfolding size_of_three
   agreed = by_size (three_verdict f g h) f found
 
@@ -269,7 +260,7 @@ module _ (f g h : List ℕ) {w l : ℕ} (found : size_of_three f g h ≡ read.Si
         let t = agreed in
         (p ∙ simp (t.accepted, t.width, t.height), q ∙ simp (t.accepted, t.width, t.height, three_pixels))
 
-pub three_refused : (f g h : List ℕ) {r : Refusal} → size_of_three f g h ≡ read.Refused r → (area : List ℕ)
-    → (read.Refused r ≡ majority_read f g h (length area)) × (area ≡ majority_area f g h area)
+pub three_refused : (f g h : List ℕ) {r : Refusal} → size_of_three f g h ≡ Err r → (area : List ℕ)
+    → (Err r ≡ majority_read f g h (length area)) × (area ≡ majority_area f g h area)
 unfolding majority_read majority_area majority_verdict size_of_three
 three_refused f g h e area = let q = by_refusal (three_verdict f g h) f e in (simp q, simp q)

@@ -1,105 +1,94 @@
 -- A raster that is unpacked row by row, and a row byte by byte.
---     RowDone          where the loop stands: the bytes before `at` have given the pixels before `col`
---     row_none, row_more, row_rest, row_all    its start, a whole byte, the byte with the rest of the row, its end
---     row_byte_lem         the byte at hand lies in the row
---     ImageDone        where the loop over the rows stands: the rows passed are unpacked, and the next starts at `from` in the raster, at `to` in the area
---     image_none, image_more, image_all, image_fits    its start, a row, its end, and that the row at hand lies in both
---     FilledBy         the answer and the area afterwards; fill_short, fill_whole: the area is too short; it is filled
+--     row_more, row_rest, row_all    a loop over a row's bytes: a whole byte, the byte with the rest of the row, its end
+--     ImageDone        where the loop over the rows stands: the rows passed are unpacked
+--     image_fits, image_more, image_all    the row at hand lies in raster and image; a row; the end
+--     FilledBy         the answer and the area afterwards; fill_done: it is filled
 -- Assumes nothing.
-use mathlib.Core.List.{List}
+use Rattle.std.specs.Prelude.{Ok}
+use mathlib.Core.List.{List, ◌++◌}
 use mathlib.Core.Path.{◌≡◌, ap, ◌∙◌}
-use Prim.Native.Nat.{ℕ, ◌+◌, ◌-◌, ◌*◌, ◌/◌, ◌%◌, ◌≤◌, ◌<◌}
-use native.Mathlib.Nat.{zero-mul, mul_comm, le_trans, le_antisymm}
+use Prim.Native.Nat.{ℕ, ◌+◌, ◌-◌, ◌*◌, ◌/◌, ◌%◌, ◌^◌, ◌≤◌, ◌<◌}
+use native.Mathlib.Nat.{mul_comm}
 use native.Mathlib.Omega.{arith}
-use borrow.Author.Tests.{lt-ltb, le-ltb}
-use lib.ListN.{length, get_or}
-use lib.Seq.{sets}
-use Rattle.image.specs.declared.ImageRead.{ImageRead}
-use Rattle.image.specs.declared.ImageRead.TheVariants as read
+use borrow.Author.Tests.{le-ltb}
+use lib.ListN.{length, get_or, take, drop}
+use lib.Seq.{get_or-take, get_or-drop, sets}
 use Rattle.image.specs.Code.Rows.{byte_pixel, row_pixel}
-use Rattle.image.specs.File.{raster_pixel, pixels_of, area_rule, read_as}
-use Rattle.image.specs.Size.{row_bytes}
+use Rattle.image.specs.File.{raster_pixel, pixels_of, area_rule, read_as, ImageRead}
+use Rattle.image.specs.Size.{row_bytes, extent}
+use Rattle.image.proofs.Cuts.{put_part}
 use Rattle.image.proofs.RowBytes.{row_bytes_fit}
 use Rattle.seq.proofs.Grid.{grid, row_below, fill_row}
-use Rattle.seq.proofs.Stores.{Stored, stored_none, stored_run, stored_all}
-use Rattle.seq.proofs.Tab.{fill_none}
+use Rattle.seq.proofs.Stores.{fill_run}
+use Rattle.seq.proofs.Tab.{tab_ext, length_tab, fill_length, fill_whole}
 use Rattle.seq.specs.Tab.{tab, Filled}
 use Rattle.verdict.specs.Writer.{over, output_of}
-use Rattle.verdict.specs.Rules.{refusal}
-use Rattle.verdict.proofs.Writer.{filled_over}
 
-pub record RowDone (r : List ℕ) (from width : ℕ) (d : List ℕ) (to : ℕ) (area : List ℕ) (at col : ℕ) : Type 0 where
-  pub within : col ≤ width
-  pub place : col + 8 * from ≡ 8 * at
-  pub pixels : Stored (row_pixel r from) d to area col
+-- pixel k of byte j is pixel 8 * j + k of the row
+here : (bytes : List ℕ) (j k : ℕ) → k < 8 → byte_pixel (get_or bytes j 0) k ≡ row_pixel bytes (8 * j + k)
+here bytes j k h =
+    let a : (8 * j + k) / 8 ≡ j = omega arith in
+    let b : (8 * j + k) % 8 ≡ k = omega arith in
+    rw (a, b)
 
-pub row_none : (r : List ℕ) (from width : ℕ) (d : List ℕ) (to : ℕ) → RowDone r from width d to d from 0
-row_none r from width d to = record { within = omega arith; place = omega arith; pixels = stored_none (row_pixel r from) d to }
+module _ (bytes : List ℕ) {d row : List ℕ} (j : ℕ) (s : Filled (row_pixel bytes) d row (8 * j)) where
+  pub row_more : {new : List ℕ} → j < length d / 8 → new ≡ tab (byte_pixel (get_or bytes j 0)) (length (take (8 * j + 8 - 8 * j) (drop (8 * j) row)))
+      → Filled (row_pixel bytes) d (take (8 * j) row ++ (new ++ drop (8 * j + 8 - 8 * j) (drop (8 * j) row))) (8 * (j + 1))
+  row_more l e =
+      let next : 8 * (j + 1) ≡ 8 * j + 8 = omega arith in
+      rw next
+      (fill_run (byte_pixel (get_or bytes j 0)) 8 s (omega arith) (λ k b. here bytes j k b)
+      (put_part (byte_pixel (get_or bytes j 0)) 8 row (8 * j) (omega arith) (omega (arith, fill_length s)) e))
 
-module _ {r : List ℕ} {from width : ℕ} {d : List ℕ} {to : ℕ} {area : List ℕ} {at col : ℕ} (s : RowDone r from width d to area at col) where
-  pub row_byte_lem : col < width → at < from + row_bytes width
-  row_byte_lem h = omega (arith, row_bytes_fit width, s.place)
+  pub row_rest : {new : List ℕ} → j ≡ length d / 8
+      → new ≡ tab (byte_pixel (get_or bytes (length d / 8) 0)) (length (take (length row - 8 * (length d / 8)) (drop (8 * (length d / 8)) row)))
+      → take (8 * (length d / 8)) row ++ (new ++ drop (length row - 8 * (length d / 8)) (drop (8 * (length d / 8)) row)) ≡ tab (row_pixel bytes) (length d)
+  row_rest q e =
+      let rest : 8 * (length d / 8) + length d % 8 ≡ length d = omega arith in
+      let put = put_part (byte_pixel (get_or bytes (length d / 8) 0)) (length d % 8) row (8 * (length d / 8)) (omega (arith, fill_length s)) (omega (arith, fill_length s)) e in
+      fill_whole
+      (rw rest at (fill_run (byte_pixel (get_or bytes (length d / 8) 0)) (length d % 8) (rw q at s) (omega arith) (λ k b. here bytes (length d / 8) k (omega arith)) put))
 
-  -- pixel k of the byte at hand is pixel col + k of the row
-  here : (k : ℕ) → k < 8 → byte_pixel (get_or r at 0) k ≡ row_pixel r from (col + k)
-  here k h =
-      let i : from + (col + k) / 8 ≡ at = omega (arith, s.place) in
-      let j : (col + k) % 8 ≡ k = omega (arith, s.place) in
-      rw (i, j)
+  pub row_all : j ≡ length d / 8 → length bytes ≡ row_bytes (length d) → length bytes ≤ length d / 8 → row ≡ tab (row_pixel bytes) (length d)
+  unfolding row_bytes
+  row_all q n l = let end : 8 * j ≡ length d = omega (arith, n) in fill_whole (rw end at s)
 
-  more : {area' : List ℕ} (m : ℕ) → m ≤ 8 → area' ≡ sets area (to + col) (tab (byte_pixel (get_or r at 0)) m) → Stored (row_pixel r from) d to area' (col + m)
-  more m h e = stored_run (byte_pixel (get_or r at 0)) m s.pixels (λ k b. here k (omega arith)) e
-
-  pub row_more : {area' : List ℕ} → col + 8 ≤ width → area' ≡ sets area (to + col) (tab (byte_pixel (get_or r at 0)) 8)
-      → RowDone r from width d to area' (at + 1) (col + 8)
-  row_more h e = record { within = h; place = omega (arith, s.place); pixels = more 8 (omega arith) e }
-
-  pub row_rest : {area' : List ℕ} → width < col + 8 → area' ≡ sets area (to + col) (tab (byte_pixel (get_or r at 0)) (width - col))
-      → area' ≡ sets d to (tab (row_pixel r from) width)
-  row_rest h e = stored_all width (more (width - col) (omega arith) e) (omega (arith, s.within))
-
-  pub row_all : width ≤ col → area ≡ sets d to (tab (row_pixel r from) width)
-  row_all h = stored_all width s.pixels (omega (arith, s.within))
-
-pub record ImageDone (r : List ℕ) (w h : ℕ) (d : List ℕ) (bytes : ℕ) (area : List ℕ) (from to row : ℕ) : Type 0 where
+pub record ImageDone (r : List ℕ) (w : ℕ) (d : List ℕ) (bytes : ℕ) (pixels : List ℕ) (row : ℕ) : Type 0 where
   pub wide : bytes ≡ row_bytes w
-  pub within : row ≤ h
-  pub source : from ≡ row * row_bytes w
-  pub target : to ≡ row * w
-  pub rows : Filled (grid w (raster_pixel w r)) d area (row * w)
+  pub rows : Filled (grid w (raster_pixel w r)) d pixels (row * w)
 
-pub image_none : (r : List ℕ) (w h : ℕ) (d : List ℕ) {bytes : ℕ} → bytes ≡ row_bytes w → ImageDone r w h d bytes d 0 0 0
-image_none r w h d e = record {
-  wide = e;
-  within = omega arith;
-  source = omega arith;
-  target = omega arith;
-  rows = rw (zero-mul w) (fill_none (grid w (raster_pixel w r)) d);
-}
+module _ {r : List ℕ} {w : ℕ} {d : List ℕ} {bytes : ℕ} {pixels : List ℕ} {row : ℕ} (s : ImageDone r w d bytes pixels row) where
+  module _ {h : ℕ} (count : length r ≡ row_bytes w * h) (room : length d ≡ w * h) (l : row < h) where
+    pub image_fits : (row * bytes + bytes ≤ length r) × (row * w + w ≤ length pixels)
+    image_fits = (rw s.wide (omega (arith, count, row_below (row_bytes w) l)), omega (arith, room, fill_length s.rows, row_below w l))
 
-module _ {r : List ℕ} {w h : ℕ} {d : List ℕ} {bytes : ℕ} {area : List ℕ} {from to row : ℕ} (s : ImageDone r w h d bytes area from to row) where
-  pub image_fits : row < h → (from + row_bytes w ≤ row_bytes w * h) × (to + w ≤ w * h)
-  image_fits l = (omega (arith, row_below (row_bytes w) l, s.source), omega (arith, row_below w l, s.target))
+    -- a pixel of the part of the raster that the code takes for the row
+    same : (c : ℕ) → c < w → row_pixel (take (row * bytes + bytes - row * bytes) (drop (row * bytes) r)) c ≡ raster_pixel w r row c
+    unfolding raster_pixel
+    same c b =
+        ap (λ (x : ℕ). x / 2 ^ (7 - c % 8) % 2)
+        (get_or-take (row * bytes + bytes - row * bytes) (drop (row * bytes) r) (c / 8) 0 (omega (arith, s.wide, row_bytes_fit w))
+        ∙ get_or-drop (row * bytes) r (c / 8) 0
+        ∙ rw s.wide)
 
-  pub image_more : {area' : List ℕ} → row < h → w * h ≤ length d → area' ≡ sets area to (tab (row_pixel r from) w)
-      → ImageDone r w h d bytes area' (from + bytes) (to + w) (row + 1)
-  unfolding raster_pixel
-  image_more l fits e = record {
-    wide = s.wide;
-    within = l';
-    source = omega (arith, s.source, s.wide);
-    target = omega (arith, s.target);
-    rows = fill_row w (raster_pixel w r) row s.rows (le_trans (row_below w l) fits) (e ∙ rw (s.target, s.source));
-  }
-    where
-      l' : row + 1 ≤ h
-      l' = omega arith
+    pub image_more : {new : List ℕ} → new ≡ tab (row_pixel (take (row * bytes + bytes - row * bytes) (drop (row * bytes) r))) (length (take (row * w + w - row * w) (drop (row * w) pixels)))
+        → ImageDone r w d bytes (take (row * w) pixels ++ (new ++ drop (row * w + w - row * w) (drop (row * w) pixels))) (row + 1)
+    image_more {new} e = record { wide = s.wide; rows = fill_row w (raster_pixel w r) row s.rows (omega (arith, room, row_below w l)) stored }
+      where
+        part : List ℕ
+        part = take (row * bytes + bytes - row * bytes) (drop (row * bytes) r)
 
-  pub image_all : h ≤ row → area ≡ over (pixels_of w h r) d
-  unfolding pixels_of
-  image_all l =
-      let n : row * w ≡ w * h = omega (arith, ap (λ (k : ℕ). k * w) (le_antisymm s.within l), mul_comm w h) in
-      filled_over s.rows ∙ rw n
+        stored : take (row * w) pixels ++ (new ++ drop (row * w + w - row * w) (drop (row * w) pixels)) ≡ sets pixels (row * w) (tab (raster_pixel w r row) w)
+        stored =
+            put_part (row_pixel part) w pixels (row * w) (omega arith) image_fits.1 e
+            ∙ ap (sets pixels (row * w)) (tab_ext (row_pixel part) (raster_pixel w r row) w same)
+
+pub image_all : {r : List ℕ} {w h : ℕ} {d : List ℕ} {bytes : ℕ} {pixels : List ℕ} {row : ℕ} → ImageDone r w d bytes pixels row
+    → length d ≡ w * h → row ≡ h → pixels ≡ pixels_of w h r
+unfolding pixels_of
+image_all {w = w} {h = h} {d = d} {row = row} s n e =
+    let end : row * w ≡ length d = omega (arith, n, ap (λ (k : ℕ). k * w) e, mul_comm w h) in
+    rw n at (fill_whole (rw end at s.rows))
 
 -- by rule 13
 abbrev FilledBy : ℕ → ℕ → List ℕ → List ℕ → ImageRead → List ℕ → Type 0
@@ -107,8 +96,6 @@ FilledBy w h r area a after =
     (a ≡ read_as (area_rule w h (length area)) w h) × (after ≡ output_of (area_rule w h (length area)) (pixels_of w h r) area)
 
 module _ (w h : ℕ) (r area : List ℕ) where
-  pub fill_short : length area < w * h → FilledBy w h r area (read.Refused (refusal 13 0)) area
-  fill_short l = (simp (lt-ltb _ _ l), simp (lt-ltb _ _ l))
-
-  pub fill_whole : {after : List ℕ} → w * h ≤ length area → after ≡ over (pixels_of w h r) area → FilledBy w h r area (read.Size w h) after
-  fill_whole l e = (simp (le-ltb _ _ l), e ∙ simp (le-ltb _ _ l))
+  pub fill_done : {new : List ℕ} → w * h ≤ length area → new ≡ pixels_of w h r → FilledBy w h r area (Ok (extent w h)) (new ++ drop (w * h) area)
+  unfolding pixels_of over
+  fill_done l e = (simp (le-ltb _ _ l), simp (le-ltb _ _ l, e, length_tab))

@@ -4,27 +4,27 @@
 --     bytes_binary, binary     accepted pixels are 0 or 1
 --     write_refused, write_short, write_filled     the pixels are refused; the output is too short; the output is filled
 -- Assumes nothing.
+use Rattle.std.specs.Prelude.{Ok, Err}
 use mathlib.Core.List.{List, ◌++◌}
 use mathlib.Core.Logic.{⊎_elim}
 use mathlib.Core.Path.{◌≡◌, ap, ◌∙◌}
-use Prim.Native.Nat.{ℕ, ◌+◌, ◌*◌, ◌≤◌, ◌<◌}
+use Prim.Native.Nat.{ℕ, ◌+◌, ◌-◌, ◌*◌, ◌≤◌, ◌<◌}
 use native.Mathlib.Nat.{zero-add}
 use native.Mathlib.Omega.{arith}
 use borrow.Author.Tests.{lt-ltb, le-ltb}
-use lib.ListN.{length, get_or, length-append, get_or-eq_default}
-use lib.Seq.{sets}
+use lib.ListN.{length, get_or, take, drop, length-append, get_or-eq_default}
+use lib.Seq.{sets, length-sets}
 use Rattle.image.specs.Code.Rows.{Binary, raster_of}
 use Rattle.image.specs.File.{pixel_verdict, row_byte, image_bytes, write_verdict, image_written, image_output}
 use Rattle.image.specs.Header.{header}
 use Rattle.image.specs.Size.{row_bytes}
+use Rattle.verdict.specs.declared.Rule.TheVariants as why
 use Rattle.image.proofs.PixelsOf.{BytesGood, PixelsGood}
 use Rattle.seq.proofs.Grid.{grid}
-use Rattle.seq.proofs.Stores.{sets_append, sets_front}
+use Rattle.seq.proofs.Stores.{sets_append, sets_front, sets_part}
 use Rattle.seq.proofs.Tab.{length_tab}
 use Rattle.seq.proofs.Tests.{lt_or_le}
 use Rattle.verdict.specs.declared.Refusal.{Refusal}
-use Rattle.verdict.specs.declared.Verdict.TheVariants.{Accepted, Refused}
-use Rattle.verdict.specs.declared.Written.TheVariants as written
 use Rattle.verdict.specs.Rules.{refusal}
 use Rattle.verdict.specs.Writer.{over}
 
@@ -33,31 +33,33 @@ module _ (w h : ℕ) (px : List ℕ) where
   unfolding image_bytes
   bytes_length = length-append (header w h) (raster_of w h px) ∙ ap (λ (n : ℕ). length (header w h) + n) (length_tab (grid (row_bytes w) (row_byte w px)) (row_bytes w * h))
 
-  pub write_refused : {r : Refusal} → pixel_verdict w h px ≡ Refused r → (out : List ℕ)
-      → (written.Refused r ≡ image_written w h px (length out)) × (out ≡ image_output w h px out)
+  pub write_refused : {r : Refusal} → pixel_verdict w h px ≡ Err r → (out : List ℕ)
+      → (Err r ≡ image_written w h px (length out)) × (out ≡ image_output w h px out)
   unfolding image_written image_output write_verdict
   write_refused e out = (simp e, simp e)
 
   -- header and rows are one run of stores from the front
-  pub put_filled : (out : List ℕ) {l l' : List ℕ} {start : ℕ} → length (image_bytes w h px) ≤ length out → l ≡ sets out 0 (header w h)
-      → start ≡ length (header w h) → l' ≡ sets l start (raster_of w h px) → l' ≡ over (image_bytes w h px) out
+  pub put_filled : (out : List ℕ) {l new : List ℕ} {start end : ℕ} → length (image_bytes w h px) ≤ length out → l ≡ sets out 0 (header w h)
+      → start ≡ length (header w h) → end ≡ length (image_bytes w h px) → new ≡ raster_of w h px
+      → take start l ++ (new ++ drop (end - start) (drop start l)) ≡ over (image_bytes w h px) out
   unfolding image_bytes over
-  put_filled out fits e q r =
-      r
-      ∙ rw (e, q, ← zero-add (length (header w h))) (sets_append (header w h) (raster_of w h px) out 0)
+  put_filled out {l} {new} {start} {end} fits e q z r =
+      let long : length new ≡ row_bytes w * h = ap length r ∙ length_tab (grid (row_bytes w) (row_byte w px)) (row_bytes w * h) in
+      sets_part new l start (end - start) (omega (arith, long, z, q, bytes_length)) (omega (arith, z, q, bytes_length, fits, ap length e ∙ length-sets out 0 (header w h)))
+      ∙ rw (e, q, r, ← zero-add (length (header w h))) (sets_append (header w h) (raster_of w h px) out 0)
       ∙ sets_front (header w h ++ raster_of w h px) out fits
 
-  module _ (good : pixel_verdict w h px ≡ Accepted) (out : List ℕ) {end : ℕ} (size : end ≡ length (image_bytes w h px)) where
-    pub write_short : length out < end → (written.Refused (refusal 13 0) ≡ image_written w h px (length out)) × (out ≡ image_output w h px out)
+  module _ (good : pixel_verdict w h px ≡ Ok tt) (out : List ℕ) {end : ℕ} (size : end ≡ length (image_bytes w h px)) where
+    pub write_short : length out < end → (Err (refusal why.AreaShort 0) ≡ image_written w h px (length out)) × (out ≡ image_output w h px out)
     unfolding image_written image_output write_verdict
     write_short l = let s = lt-ltb (length out) (length (image_bytes w h px)) (omega arith) in (simp (good, s), simp (good, s))
 
     pub write_filled : {l : List ℕ} → end ≤ length out → l ≡ over (image_bytes w h px) out
-        → (written.Length end ≡ image_written w h px (length out)) × (l ≡ image_output w h px out)
+        → (Ok end ≡ image_written w h px (length out)) × (l ≡ image_output w h px out)
     unfolding image_written image_output write_verdict
     write_filled fits e =
         let s = le-ltb (length out) (length (image_bytes w h px)) (omega arith) in
-        (ap written.Length size ∙ simp (good, s), e ∙ simp (good, s))
+        (ap Ok size ∙ simp (good, s), e ∙ simp (good, s))
 
 -- past the pixels stands 0
 pub bytes_binary : {w h : ℕ} {px : List ℕ} → BytesGood w h px → Binary px

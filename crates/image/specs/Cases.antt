@@ -12,17 +12,12 @@ use Rattle.image.specs.File.{image_of, image_verdict, image_bytes, write_verdict
 use Rattle.image.specs.Header.{magic, width_of, height_of, header}
 use Rattle.image.specs.Padding.{unused_zero, cleared}
 use Rattle.image.specs.Strip.{max_parts, strip_verdict, strip_read_verdict, strip_write_verdict, strip_bytes, strip_of, kept}
-use Rattle.verdict.specs.declared.Verdict.{Verdict}
-use Rattle.verdict.specs.declared.Verdict.TheVariants.{Accepted, Refused}
-use Rattle.verdict.specs.Rules.{refusal}
+use Rattle.verdict.specs.Answers.{accepted, refused, Said, said}
 
-abbrev refused : ℕ → ℕ → Verdict
-refused n p = Refused (refusal n p)
-
-abbrev pub files : List (List ℕ × ℕ × Verdict)
+abbrev pub files : List (List ℕ × ℕ × Said)
 files =
     -- one pixel: an area of one byte is long enough, an empty one is too short
-    (header 1 1 ++ 0x80 ∷ [], 1, Accepted)
+    (header 1 1 ++ 0x80 ∷ [], 1, accepted)
     ∷ (header 1 1 ++ 0x80 ∷ [], 0, refused 13 0)
     -- a header that is none (a width of `00`) speaks before a size out of range, and that before a raster's length
     ∷ (magic ++ 0x30 ∷ 0x30 ∷ 0x20 ∷ 0x31 ∷ 0x0A ∷ 0x00 ∷ [], 0, refused 9 0)
@@ -50,10 +45,10 @@ returns =
     ∷ (header 1 2 ++ 0xFF ∷ 0x7F ∷ [], false, 1 ∷ 0 ∷ [], header 1 2 ++ 0x80 ∷ 0x00 ∷ [])
     ∷ []
 
-abbrev pub pixels : List (ℕ × ℕ × List ℕ × ℕ × Verdict)
+abbrev pub pixels : List (ℕ × ℕ × List ℕ × ℕ × Said)
 pixels =
     -- one pixel has a file of eight bytes
-    (1, 1, 1 ∷ [], 8, Accepted)
+    (1, 1, 1 ∷ [], 8, accepted)
     ∷ (1, 1, 1 ∷ [], 7, refused 13 0)
     -- a size speaks before the count of pixel bytes, that before a byte above 1, and that, by its row, before an output too short
     ∷ (0, 1, 2 ∷ [], 0, refused 10 0)
@@ -73,14 +68,14 @@ two = parts 2 (5 ∷ 5 ∷ []) (3 ∷ 2 ∷ [])
 abbrev white : List ℕ
 white = replicate 25 0
 
-abbrev pub strips : List (Strip × List ℕ × Verdict)
+abbrev pub strips : List (Strip × List ℕ × Said)
 strips =
     -- places past the number are not looked at
-    (two, white, Accepted)
-    ∷ (parts 1 (5 ∷ []) (5 ∷ []), dot, Accepted)
+    (two, white, accepted)
+    ∷ (parts 1 (5 ∷ []) (5 ∷ []), dot, accepted)
     -- the number is 1 to 16
     ∷ (parts 0 [] [], white, refused 23 0)
-    ∷ (parts 16 (replicate 16 1) (replicate 16 1), replicate 16 1, Accepted)
+    ∷ (parts 16 (replicate 16 1) (replicate 16 1), replicate 16 1, accepted)
     ∷ (parts 17 (replicate 16 1) (replicate 16 1), replicate 16 1, refused 23 0)
     -- sizes at the lowest part from 1, of all parts before the widths
     ∷ (parts 3 (5 ∷ 0 ∷ 5 ∷ []) (1 ∷ 2 ∷ 300 ∷ []), white, refused 10 2)
@@ -94,23 +89,23 @@ strips =
     ∷ (two, replicate 20 0 ++ 2 ∷ replicate 4 0, refused 12 4)
     ∷ []
 
-abbrev pub copied : List (Strip × ℕ × Verdict)
-copied = (two, 25, Accepted) ∷ (two, 24, refused 13 0) ∷ []
+abbrev pub copied : List (Strip × ℕ × Said)
+copied = (two, 25, accepted) ∷ (two, 24, refused 13 0) ∷ []
 
-abbrev pub written : List (Strip × ℕ × Verdict)
-written = (two, 19, Accepted) ∷ (two, 18, refused 13 0) ∷ []
+abbrev pub written : List (Strip × ℕ × Said)
+written = (two, 19, accepted) ∷ (two, 18, refused 13 0) ∷ []
 
 pub record Cases : Type 0 where
-  pub files_met : map (λ c. image_verdict c.0 c.1) files ≡ map (λ c. c.2) files
-  pub returns_accepted : map (λ c. image_verdict c.0 (length c.2)) returns ≡ map (λ c. Accepted) returns
+  pub files_met : map (λ c. said (image_verdict c.0 c.1)) files ≡ map (λ c. c.2) files
+  pub returns_accepted : map (λ c. said (image_verdict c.0 (length c.2))) returns ≡ map (λ c. accepted) returns
   pub returns_zero : map (λ c. unused_zero c.0) returns ≡ map (λ c. c.1) returns
   pub returns_read : map (λ c. image_of c.0) returns ≡ map (λ c. c.2) returns
   pub returns_written : map (λ c. image_bytes (width_of c.0) (height_of c.0) c.2) returns ≡ map (λ c. c.3) returns
   pub returns_cleared : map (λ c. cleared c.0) returns ≡ map (λ c. c.3) returns
-  pub pixels_met : map (λ c. write_verdict c.0 c.1 c.2 c.3) pixels ≡ map (λ c. c.4) pixels
-  pub strips_met : map (λ c. strip_verdict c.0 c.1) strips ≡ map (λ c. c.2) strips
-  pub copied_met : map (λ c. strip_read_verdict c.0 white c.1) copied ≡ map (λ c. c.2) copied
-  pub written_met : map (λ c. strip_write_verdict c.0 white c.1) written ≡ map (λ c. c.2) written
+  pub pixels_met : map (λ c. said (write_verdict c.0 c.1 c.2 c.3)) pixels ≡ map (λ c. c.4) pixels
+  pub strips_met : map (λ c. said (strip_verdict c.0 c.1)) strips ≡ map (λ c. c.2) strips
+  pub copied_met : map (λ c. said (strip_read_verdict c.0 white c.1)) copied ≡ map (λ c. c.2) copied
+  pub written_met : map (λ c. said (strip_write_verdict c.0 white c.1)) written ≡ map (λ c. c.2) written
   -- the files of the two parts, one after the other
   pub two_files : strip_bytes 5 (3 ∷ 2 ∷ []) white
       ≡ 0x50 ∷ 0x34 ∷ 0x0A ∷ 0x35 ∷ 0x20 ∷ 0x33 ∷ 0x0A ∷ 0x00 ∷ 0x00 ∷ 0x00 ∷ 0x50 ∷ 0x34 ∷ 0x0A ∷ 0x35 ∷ 0x20 ∷ 0x32 ∷ 0x0A ∷ 0x00 ∷ 0x00 ∷ []

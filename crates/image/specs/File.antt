@@ -5,7 +5,7 @@
 --     file_rules f, file_verdict f             the rules of a file in their order; accepted, or number and place
 --     area_rule w h n        13: an area of n bytes is too short for the image
 --     image_verdict f n, image_read f n, image_area f area    the reader on an area of n bytes: its answer, and the area afterwards
---     read_as v w h          the reader's answer by its verdict
+--     ImageRead              the size of the image read, or the refusal; read_as v w h: by the reader's verdict
 --     bytes_rules w h px, bytes_verdict w h px     the rules on the bytes of so many pixels: 11, 12; their verdict
 --     pixel_rules w h px, pixel_verdict w h px     the rules on an image's pixel bytes: 10, 11, 12; their verdict
 --     in_row w px row col    the pixel at a row and a column, 0 past the row's end
@@ -14,17 +14,15 @@
 --     image_bytes w h px     the file of an image
 --     write_verdict w h px n, image_written w h px n, image_output w h px out     the writer on n bytes of output
 -- Assumes nothing.
-use Rattle.std.specs.Prelude.{not, cond, List, [], ◌∷◌, ◌++◌, ℕ, ◌+◌, ◌-◌, ◌*◌, ◌/◌, ◌%◌, ◌^◌, ltb, eqb, length, get_or}
-use Rattle.image.specs.declared.ImageRead.{ImageRead}
-use Rattle.image.specs.declared.ImageRead.TheVariants as read
+use Rattle.std.specs.Prelude.{not, cond, List, [], ◌∷◌, ◌++◌, ℕ, ◌+◌, ◌-◌, ◌*◌, ◌/◌, ◌%◌, ◌^◌, ltb, eqb, length, get_or, Result}
+use Rattle.image.specs.declared.size.Size.{Size}
 use Rattle.image.specs.Header.{raster, header_form, width_of, height_of, header}
-use Rattle.image.specs.Size.{bad_size, row_bytes}
+use Rattle.image.specs.Size.{bad_size, row_bytes, extent}
 use Rattle.seq.specs.Tab.{tab, first}
-use Rattle.verdict.specs.declared.Verdict.{Verdict}
-use Rattle.verdict.specs.declared.Verdict.TheVariants.{Accepted, Refused}
-use Rattle.verdict.specs.declared.Written.{Written}
-use Rattle.verdict.specs.Rules.{refuse_if, refuse_at, or_else, judge}
-use Rattle.verdict.specs.Writer.{written_of, output_of}
+use Rattle.verdict.specs.declared.Refusal.{Refusal}
+use Rattle.verdict.specs.Rules.{refuse_if, refuse_at, or_else, judge, Verdict, result_of}
+use Rattle.verdict.specs.Writer.{written_of, output_of, Written}
+use Rattle.verdict.specs.declared.Rule.TheVariants as why
 
 unfoldable pub raster_pixel : ℕ → List ℕ → ℕ → ℕ → ℕ
 raster_pixel w r row col = get_or r (row * row_bytes w + col / 8) 0 / 2 ^ (7 - col % 8) % 2
@@ -37,23 +35,25 @@ image_of f = pixels_of (width_of f) (height_of f) (raster f)
 
 abbrev pub file_rules : List ℕ → List Verdict
 file_rules f =
-    refuse_if (not (header_form f)) 9 0
-    ∷ refuse_if (bad_size (width_of f) (height_of f)) 10 0
-    ∷ refuse_if (not (eqb (length (raster f)) (row_bytes (width_of f) * height_of f))) 11 0
+    refuse_if (not (header_form f)) why.HeaderForm 0
+    ∷ refuse_if (bad_size (width_of f) (height_of f)) why.SizeRange 0
+    ∷ refuse_if (not (eqb (length (raster f)) (row_bytes (width_of f) * height_of f))) why.RasterLength 0
     ∷ []
 
 unfoldable pub file_verdict : List ℕ → Verdict
 file_verdict f = judge (file_rules f)
 
 abbrev pub area_rule : ℕ → ℕ → ℕ → Verdict
-area_rule w h n = refuse_if (ltb n (w * h)) 13 0
+area_rule w h n = refuse_if (ltb n (w * h)) why.AreaShort 0
 
 unfoldable pub image_verdict : List ℕ → ℕ → Verdict
 image_verdict f n = or_else (file_verdict f) (area_rule (width_of f) (height_of f) n)
 
+abbrev pub ImageRead : Type 0
+ImageRead = Result Size Refusal
+
 abbrev pub read_as : Verdict → ℕ → ℕ → ImageRead
-read_as Accepted w h = read.Size w h
-read_as (Refused r) w h = read.Refused r
+read_as v w h = result_of v (extent w h)
 
 unfoldable pub image_read : List ℕ → ℕ → ImageRead
 image_read f n = read_as (image_verdict f n) (width_of f) (height_of f)
@@ -63,15 +63,15 @@ image_area f area = output_of (image_verdict f (length area)) (pixels_of (width_
 
 abbrev pub bytes_rules : ℕ → ℕ → List ℕ → List Verdict
 bytes_rules w h px =
-    refuse_if (not (eqb (length px) (w * h))) 11 0
-    ∷ refuse_at (first (λ i. ltb 1 (get_or px i 0)) (w * h)) 12 (λ i. i / w)
+    refuse_if (not (eqb (length px) (w * h))) why.RasterLength 0
+    ∷ refuse_at (first (λ i. ltb 1 (get_or px i 0)) (w * h)) why.PixelValue (λ i. i / w)
     ∷ []
 
 unfoldable pub bytes_verdict : ℕ → ℕ → List ℕ → Verdict
 bytes_verdict w h px = judge (bytes_rules w h px)
 
 abbrev pub pixel_rules : ℕ → ℕ → List ℕ → List Verdict
-pixel_rules w h px = refuse_if (bad_size w h) 10 0 ∷ bytes_rules w h px
+pixel_rules w h px = refuse_if (bad_size w h) why.SizeRange 0 ∷ bytes_rules w h px
 
 unfoldable pub pixel_verdict : ℕ → ℕ → List ℕ → Verdict
 pixel_verdict w h px = judge (pixel_rules w h px)
@@ -89,7 +89,7 @@ unfoldable pub image_bytes : ℕ → ℕ → List ℕ → List ℕ
 image_bytes w h px = header w h ++ tab (λ i. row_byte w px (i / row_bytes w) (i % row_bytes w)) (row_bytes w * h)
 
 unfoldable pub write_verdict : ℕ → ℕ → List ℕ → ℕ → Verdict
-write_verdict w h px n = or_else (pixel_verdict w h px) (refuse_if (ltb n (length (image_bytes w h px))) 13 0)
+write_verdict w h px n = or_else (pixel_verdict w h px) (refuse_if (ltb n (length (image_bytes w h px))) why.AreaShort 0)
 
 unfoldable pub image_written : ℕ → ℕ → List ℕ → ℕ → Written
 image_written w h px n = written_of (write_verdict w h px n) (image_bytes w h px)

@@ -6,14 +6,13 @@
 --     majority_verdict f g h n, majority_read f g h n, majority_area f g h area     the reader on an area of n bytes: its answer, and the area afterwards
 -- Assumes nothing.
 use Rattle.std.specs.Prelude.{Bool, not, ◌&&◌, List, [], ◌∷◌, ℕ, ◌+◌, leb, eqb, length, get_or}
-use Rattle.image.specs.declared.ImageRead.{ImageRead}
-use Rattle.image.specs.File.{image_of, file_verdict, area_rule, read_as}
+use Rattle.image.specs.File.{image_of, file_verdict, area_rule, read_as, ImageRead}
 use Rattle.image.specs.Header.{width_of, height_of}
 use Rattle.seq.specs.Lists.{one}
 use Rattle.seq.specs.Tab.{tab}
-use Rattle.verdict.specs.declared.Verdict.{Verdict}
-use Rattle.verdict.specs.Rules.{refuse_if, or_else, judge}
+use Rattle.verdict.specs.Rules.{refuse_if, or_else, judge, Verdict}
 use Rattle.verdict.specs.Writer.{output_of}
+use Rattle.verdict.specs.declared.Rule.TheVariants as why
 
 abbrev pub majority_at : ℕ → ℕ → ℕ → ℕ
 majority_at u v w = one (leb 2 (u + v + w))
@@ -26,7 +25,7 @@ size_differs f g = not (eqb (width_of f) (width_of g) && eqb (height_of f) (heig
 
 abbrev pub three_rules : List ℕ → List ℕ → List ℕ → List Verdict
 three_rules f g h =
-    file_verdict f ∷ file_verdict g ∷ file_verdict h ∷ refuse_if (size_differs g f) 26 2 ∷ refuse_if (size_differs h f) 26 3 ∷ []
+    file_verdict f ∷ file_verdict g ∷ file_verdict h ∷ refuse_if (size_differs g f) why.SizesDiffer 2 ∷ refuse_if (size_differs h f) why.SizesDiffer 3 ∷ []
 
 unfoldable pub three_verdict : List ℕ → List ℕ → List ℕ → Verdict
 three_verdict f g h = judge (three_rules f g h)

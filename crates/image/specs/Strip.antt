@@ -14,19 +14,17 @@
 --     PartsBack w hs px               each file stands behind the earlier ones, and reads back as its part
 -- Assumes nothing.
 use Rattle.std.specs.Prelude.{not, List, [], ◌∷◌, ◌++◌, ◌≡◌, ℕ, suc, ◌*◌, ◌<◌, ltb, eqb, length, get_or, take, drop, replicate}
-use Rattle.image.specs.declared.ImageRead.{ImageRead}
 use Rattle.image.specs.declared.strip.PartCounts.{PartCounts}
 use Rattle.image.specs.declared.strip.Strip.{Strip}
-use Rattle.image.specs.File.{area_rule, read_as, bytes_verdict, image_bytes}
+use Rattle.image.specs.File.{area_rule, read_as, bytes_verdict, image_bytes, ImageRead}
 use Rattle.image.specs.Parts.{part_of}
 use Rattle.image.specs.RoundTrip.{ReadBack}
 use Rattle.image.specs.Size.{max_side, within, bad_size}
 use Rattle.seq.specs.Lists.{sum_of}
 use Rattle.seq.specs.Tab.{tab, first}
-use Rattle.verdict.specs.declared.Verdict.{Verdict}
-use Rattle.verdict.specs.declared.Written.{Written}
-use Rattle.verdict.specs.Rules.{refuse_if, refuse_at, or_else, judge}
-use Rattle.verdict.specs.Writer.{written_of, output_of}
+use Rattle.verdict.specs.Rules.{refuse_if, refuse_at, or_else, judge, Verdict}
+use Rattle.verdict.specs.Writer.{written_of, output_of, Written}
+use Rattle.verdict.specs.declared.Rule.TheVariants as why
 
 abbrev pub max_parts : ℕ
 max_parts = 16
@@ -48,9 +46,9 @@ strip_height p = sum_of (heights_of p)
 
 abbrev pub shape_rules : Strip → List Verdict
 shape_rules p =
-    refuse_if (not (within max_parts p.parts)) 23 0
-    ∷ refuse_at (first (λ i. bad_size (get_or p.widths i 0) (get_or p.heights i 0)) p.parts) 10 suc
-    ∷ refuse_at (first (λ i. not (eqb (get_or p.widths i 0) (strip_width p))) p.parts) 23 suc
+    refuse_if (not (within max_parts p.parts)) why.Parts 0
+    ∷ refuse_at (first (λ i. bad_size (get_or p.widths i 0) (get_or p.heights i 0)) p.parts) why.SizeRange suc
+    ∷ refuse_at (first (λ i. not (eqb (get_or p.widths i 0) (strip_width p))) p.parts) why.Parts suc
     ∷ []
 
 unfoldable pub shape_verdict : Strip → Verdict
@@ -74,7 +72,7 @@ strip_bytes w [] px = []
 strip_bytes w (h ∷ hs) px = image_bytes w h (take (w * h) px) ++ strip_bytes w hs (drop (w * h) px)
 
 unfoldable pub strip_write_verdict : Strip → List ℕ → ℕ → Verdict
-strip_write_verdict p px n = or_else (strip_verdict p px) (refuse_if (ltb n (length (strip_bytes (strip_width p) (heights_of p) px))) 13 0)
+strip_write_verdict p px n = or_else (strip_verdict p px) (refuse_if (ltb n (length (strip_bytes (strip_width p) (heights_of p) px))) why.AreaShort 0)
 
 unfoldable pub strip_written : Strip → List ℕ → ℕ → Written
 strip_written p px n = written_of (strip_write_verdict p px n) (strip_bytes (strip_width p) (heights_of p) px)

@@ -1,12 +1,15 @@
-// Decimal numbers in a header (01, The sheet): one to three digits, and no leading zero unless the number is 0.
+// Decimal numbers in a header (01, The sheet): one to three digits, and no leading zero unless the number is 0. File and output come with a position, which
+// the promises count in the whole of them: a cut slice is no plainer.
 ghost use Rattle.std.specs.Prelude.{◌≡◌, ◌+◌, ◌-◌, ◌%◌, ◌≤◌, ◌<◌, length, get_or, take, drop};
 ghost use Rattle.std.proofs.lemmas.List.Edits.{sets};
+ghost use Rattle.std.specs.Char.{is_ascii_digit};
+ghost use Rattle.std.specs.List.{prefix_len};
 ghost use Rattle.image.specs.Code.Layout.{number_at};
 ghost use Rattle.image.specs.Header.{is_digit, digits, decimal_value, strict, digit0, decimal};
 
-const DIGIT_0: u8 = b'0';
+use crate::size;
 
-const DIGIT_9: u8 = b'9';
+const DIGIT_0: u8 = b'0';
 
 const RADIX: usize = 10;
 
@@ -16,34 +19,31 @@ pub(crate) const MAX_DIGITS: usize = 3;
 
 // A number and the position after the byte that ends it.
 #[derive(Clone, Copy)]
-pub(crate) enum Number {
-    Value { value: usize, next: usize },
-    Malformed,
+pub(crate) struct Number {
+    pub(crate) value: usize,
+    pub(crate) next: usize,
 }
 
 // The number at a position, which the byte `stop` ends.
-pub(crate) fn read(file: &[u8], at: usize, stop: u8) -> Number
+pub(crate) fn read(file: &[u8], at: usize, stop: u8) -> Option<Number>
     requires { 0 < stop }
     ensures { result ≡ number_at file.now at stop }
 {
-    let end = digits_end(file, at);
-    if !is_strict(file, at, end) {
-        return Number::Malformed;
+    let end = at + digits(file, at);
+    if !is_strict(file, at, end) || byte_at(file, end) != stop {
+        return None;
     }
-    if byte_at(file, end) != stop {
-        return Number::Malformed;
-    }
-    Number::Value {
-        value: value(file, at, end),
+    Some(Number {
+        value: value(&file[at..end]),
         next: end + 1,
-    }
+    })
 }
 
 // The byte at a position, 0 past the end.
 pub(crate) fn byte_at(file: &[u8], at: usize) -> u8
     ensures { result ≡ get_or file.now at 0 }
 {
-    if at < file.len() { file[at] } else { 0 }
+    file.get(at).copied().unwrap_or(0)
 }
 
 // The digits from `at` to `end` are one to three, and start with 0 only where it is the one digit.
@@ -52,45 +52,27 @@ fn is_strict(file: &[u8], at: usize, end: usize) -> bool
     ensures { result ≡ strict (drop at file.now) }
 {
     let count = end - at;
-    if count < 1 {
-        return false;
-    }
-    if MAX_DIGITS < count {
-        return false;
-    }
-    count == 1 || byte_at(file, at) != DIGIT_0
+    size::is_within(MAX_DIGITS, count) && (count == 1 || byte_at(file, at) != DIGIT_0)
 }
 
-// Where the digits that start at a position end.
-fn digits_end(file: &[u8], at: usize) -> usize
-    ensures { result ≡ at + digits (drop at file.now) }
+// How many digits stand from a position on.
+fn digits(file: &[u8], at: usize) -> usize
+    ensures { result ≡ prefix_len is_ascii_digit (drop at file.now) }
 {
-    let mut i = at;
-    while i < file.len() {
-        if !is_digit(file[i]) {
-            return i;
-        }
-        i += 1;
-    }
-    i
+    file.iter()
+        .skip(at)
+        .take_while(|b| b.is_ascii_digit())
+        .count()
 }
 
-fn is_digit(b: u8) -> bool
-    ensures { result ≡ is_digit b }
-{
-    DIGIT_0 <= b && b <= DIGIT_9
-}
-
-// The number that the digits between two positions make.
-fn value(file: &[u8], at: usize, end: usize) -> usize
-    requires { (end ≡ at + digits (drop at file.now)) × (end - at ≤ 3) }
-    ensures { result ≡ decimal_value (take (end - at) (drop at file.now)) }
+// The number that digits make.
+fn value(ds: &[u8]) -> usize
+    requires { (digits ds.now ≡ length ds.now) × (length ds.now ≤ 3) }
+    ensures { result ≡ decimal_value ds.now }
 {
     let mut n: usize = 0;
-    let mut i = at;
-    while i < end {
-        n = RADIX * n + (file[i] - DIGIT_0) as usize;
-        i += 1;
+    for d in ds {
+        n = RADIX * n + usize::from(*d - DIGIT_0);
     }
     n
 }

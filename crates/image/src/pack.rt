@@ -1,67 +1,51 @@
 // Packing pixels (01, The sheet): a byte for eight pixels of a row, the leftmost the highest bit; the unused bits of a row's last byte are zero.
-ghost use Rattle.std.specs.Prelude.{◌≡◌, ◌+◌, ◌*◌, ◌≤◌, length};
-ghost use Rattle.std.proofs.lemmas.List.Edits.{sets};
-ghost use Rattle.image.specs.Code.Rows.{Sides, Binary, pixel_in, packed_row, raster_of};
+ghost use Rattle.std.specs.Prelude.{◌≡◌, ◌*◌, length, get_or};
+ghost use Rattle.image.specs.Code.Rows.{Sides, Binary, packed_row, raster_of};
 ghost use Rattle.image.specs.File.{packed};
-ghost use Rattle.image.specs.Size.{max_side, row_bytes};
+ghost use Rattle.image.specs.Size.{row_bytes};
 ghost use Rattle.seq.specs.Tab.{tab};
 
 use crate::size;
-use crate::size::BYTE_PIXELS;
+use crate::size::{BYTE_PIXELS, Size};
 
-// All rows from `start` on; `from` is the place of a row's first pixel, `to` that of its first byte.
-pub(crate) fn image(pixels: &[u8], width: usize, height: usize, out: &mut [u8], start: usize)
-    requires { Sides width height × Binary pixels.now × (length pixels.now ≡ width * height)
-        × (start + row_bytes width * height ≤ length out.old) }
-    ensures { out.new ≡ sets out.old start (raster_of width height pixels.now) }
+// All rows. That pixels are 0 or 1 stays in the contracts: a struct with this fact around each slice, cut anew for each byte, is no plainer.
+pub(crate) fn image(pixels: &[u8], size: Size, raster: &mut [u8])
+    requires { Sides size.width size.height × Binary pixels.now × (length pixels.now ≡ size.width * size.height)
+        × (length raster.old ≡ row_bytes size.width * size.height) }
+    ensures { raster.new ≡ raster_of size.width size.height pixels.now }
 {
+    let Size { width, height } = size;
     let bytes = size::row_bytes(width);
-    let mut from = 0;
-    let mut to = start;
-    let mut row = 0;
-    while row < height {
-        pack_row(pixels, from, width, out, to);
-        from += width;
-        to += bytes;
-        row += 1;
+    for row in 0..height {
+        let from = row * width;
+        let to = row * bytes;
+        pack_row(&pixels[from..from + width], &mut raster[to..to + bytes]);
     }
 }
 
 // One row, byte by byte.
-fn pack_row(pixels: &[u8], from: usize, width: usize, out: &mut [u8], to: usize)
-    requires { Binary pixels.now × (width ≤ max_side) × (from + width ≤ length pixels.now) × (to + row_bytes width ≤ length out.old) }
-    ensures { out.new ≡ sets out.old to (tab (packed_row pixels.now from width) (row_bytes width)) }
+fn pack_row(row: &[u8], bytes: &mut [u8])
+    requires { Binary row.now × (length bytes.old ≡ row_bytes (length row.now)) }
+    ensures { bytes.new ≡ tab (packed_row row.now) (length bytes.old) }
 {
-    let mut col = 0;
-    let mut byte = 0;
-    while col + BYTE_PIXELS <= width {
-        out[to + byte] = pack_byte(pixels, from + col, BYTE_PIXELS);
-        col += BYTE_PIXELS;
-        byte += 1;
+    let whole = row.len() / BYTE_PIXELS;
+    for i in 0..whole {
+        let from = BYTE_PIXELS * i;
+        bytes[i] = pack_byte(&row[from..from + BYTE_PIXELS]);
     }
-    if col < width {
-        out[to + byte] = pack_byte(pixels, from + col, width - col);
+    if whole < bytes.len() {
+        bytes[whole] = pack_byte(&row[BYTE_PIXELS * whole..]);
     }
 }
 
-// The byte of the `count` pixels from a place on.
-fn pack_byte(pixels: &[u8], from: usize, count: usize) -> u8
-    requires { Binary pixels.now × (count ≤ 8) × (from + count ≤ length pixels.now) }
-    ensures { result ≡ packed (pixel_in pixels.now from count) }
+// The byte of the first eight of some pixels, 0 past them.
+fn pack_byte(pixels: &[u8]) -> u8
+    requires { Binary pixels.now }
+    ensures { result ≡ packed (λ k. get_or pixels.now k 0) }
 {
     let mut byte: u8 = 0;
-    let mut k = 0;
-    while k < BYTE_PIXELS {
-        byte = 2 * byte + pixel_in(pixels, from, count, k);
-        k += 1;
+    for k in 0..BYTE_PIXELS {
+        byte = 2 * byte + pixels.get(k).copied().unwrap_or(0);
     }
     byte
-}
-
-// Pixel k of the `count` pixels from a place on, 0 past them.
-fn pixel_in(pixels: &[u8], from: usize, count: usize, k: usize) -> u8
-    requires { from + count ≤ length pixels.now }
-    ensures { result ≡ pixel_in pixels.now from count k }
-{
-    if k < count { pixels[from + k] } else { 0 }
 }

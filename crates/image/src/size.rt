@@ -1,6 +1,13 @@
 // Sizes of images (01, The sheet): width and height are 1 to 256 each.
-ghost use Rattle.std.specs.Prelude.{◌≡◌, ◌≤◌};
-ghost use Rattle.image.specs.Size.{max_side, within, bad_size, row_bytes};
+ghost use Rattle.std.specs.Prelude.{◌≡◌};
+ghost use Rattle.image.specs.Size.{within, bad_size, row_bytes};
+
+// Pixels of a row, and rows. No bound stands in the type: a header may state any size, and the rows of a strip are more than an image's.
+#[derive(Clone, Copy, PartialEq, Eq)]
+pub struct Size {
+    pub width: usize,
+    pub height: usize,
+}
 
 pub const MAX_SIDE: usize = 256;
 
@@ -14,22 +21,18 @@ pub(crate) const MAX_RASTER: usize = MAX_PIXELS / BYTE_PIXELS;
 pub fn is_bad(width: usize, height: usize) -> bool
     ensures { result ≡ bad_size width height }
 {
-    if !is_within(MAX_SIDE, width) {
-        return true;
-    }
-    !is_within(MAX_SIDE, height)
+    !(is_within(MAX_SIDE, width) && is_within(MAX_SIDE, height))
 }
 
 pub(crate) fn is_within(limit: usize, n: usize) -> bool
     ensures { result ≡ within limit n }
 {
-    1 <= n && n <= limit
+    (1..=limit).contains(&n)
 }
 
 // The bytes of a row in a file.
 pub(crate) fn row_bytes(width: usize) -> usize
-    requires { width ≤ max_side }
     ensures { result ≡ row_bytes width }
 {
-    (width + (BYTE_PIXELS - 1)) / BYTE_PIXELS
+    width.div_ceil(BYTE_PIXELS)
 }

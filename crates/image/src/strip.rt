@@ -1,37 +1,45 @@
 // Strips (02, T-08): up to 16 images of one width, laid end to end. Their pixel bytes stand in part order.
-ghost use Rattle.std.specs.Prelude.{not, List, ◌≡◌, ℕ, suc, ◌*◌, ◌≤◌, ◌<◌, eqb, length, get_or};
+ghost use Rattle.std.specs.List.{zip};
+ghost use Rattle.std.specs.Prelude.{not, List, ◌≡◌, ◌==◌, ℕ, suc, ◌*◌, ◌≤◌, ◌<◌, length, slice_index, position, sum, IfSome};
 ghost use Rattle.image.specs.Code.Rows.{Binary};
 ghost use Rattle.image.specs.Code.Strip.{Heights};
 ghost use Rattle.image.specs.File.{read_as};
-ghost use Rattle.image.specs.Size.{max_side, bad_size};
-ghost use Rattle.image.specs.Strip.{strip_width, strip_height, shape_verdict, strip_verdict, strip_read, strip_area, strip_bytes, strip_written, strip_output};
+ghost use Rattle.image.specs.Size.{extent, max_side, bad_size};
+ghost use Rattle.image.specs.Strip.{max_parts, max_rows, heights_of, strip_width, strip_height, shape_verdict, strip_verdict, strip_read, strip_area, strip_bytes, strip_written, strip_output};
 ghost use Rattle.seq.specs.Lists.{sum_of};
-ghost use Rattle.seq.specs.Tab.{first};
-ghost use Rattle.verdict.specs.declared.Verdict.TheVariants.{Accepted};
 ghost use Rattle.verdict.specs.Rules.{refuse_at};
 ghost use Rattle.verdict.specs.Writer.{over};
 
-use crate::size::MAX_SIDE;
-use crate::{ImageRead, file, pixels, size};
-use verdict::{Verdict, Written};
+use crate::size::{MAX_SIDE, Size};
+use crate::{file, pixels, size};
+use verdict::{Refusal, Rule, Verdict, Written};
 
 // The most parts of a strip, and the most rows of them together.
 pub const MAX_PARTS: usize = 16;
 
 pub const MAX_ROWS: usize = MAX_PARTS * MAX_SIDE;
 
-// The number of parts, and the width and height of each. Places past the number are not looked at.
+// The number of parts, and the width and height of each. Places past the number are not looked at. The C interface has the struct as it is.
 #[repr(C)]
-#[derive(Clone, Copy)]
+#[derive(Clone, Copy, PartialEq, Eq)]
 pub struct Strip {
     pub parts: usize,
     pub widths: [usize; MAX_PARTS],
     pub heights: [usize; MAX_PARTS],
 }
 
-// Of each part, the pixels that went from 0 to 1 and from 1 to 0.
+impl Strip {
+    fn part_heights(&self) -> &[usize]
+        requires { self.now.parts ≤ max_parts }
+        ensures { result.now ≡ heights_of self.now }
+    {
+        &self.heights[..self.parts]
+    }
+}
+
+// Of each part, the pixels that went from 0 to 1 and from 1 to 0. The C interface has the struct as it is.
 #[repr(C)]
-#[derive(Clone, Copy)]
+#[derive(Clone, Copy, PartialEq, Eq)]
 pub struct PartCounts {
     pub added: [usize; MAX_PARTS],
     pub removed: [usize; MAX_PARTS],
@@ -43,63 +51,50 @@ pub fn check_shape(strip: Strip) -> Verdict
 {
     let parts = strip.parts;
     if !size::is_within(MAX_PARTS, parts) {
-        return verdict::refused(verdict::PARTS, 0);
+        return verdict::refused(Rule::Parts, 0);
     }
-    let widths = strip.widths;
-    let heights = strip.heights;
-    if let Verdict::Refused(refusal) = check_sizes(&widths[..parts], &heights[..parts]) {
-        return Verdict::Refused(refusal);
-    }
-    check_widths(&widths[..parts])
+    let widths = &strip.widths[..parts];
+    refuse_part(bad_size(widths, strip.part_heights()), Rule::SizeRange)?;
+    refuse_part(other_width(widths), Rule::Parts)
 }
 
 // Judges a strip with its pixel bytes: as `check_shape`, then 11 (the count of bytes), 12 (a byte above 1, at its row of the strip).
 pub fn check(strip: Strip, pixels: &[u8]) -> Verdict
     ensures { result ≡ strip_verdict strip pixels.now }
 {
-    if let Verdict::Refused(refusal) = check_shape(strip) {
-        return Verdict::Refused(refusal);
-    }
-    let parts = strip.parts;
-    let heights = strip.heights;
-    pixels::check_bytes(pixels, strip.widths[0], sum(&heights[..parts]))
+    check_shape(strip)?;
+    pixels::check_bytes(pixels, whole(strip))
 }
 
 // Judges a strip with its pixel bytes as `check` does, and answers its size as one image.
-pub fn size_of(strip: Strip, pixels: &[u8]) -> ImageRead
+pub fn size_of(strip: Strip, pixels: &[u8]) -> Result<Size, Refusal>
     ensures { result ≡ read_as (strip_verdict strip pixels.now) (strip_width strip) (strip_height strip) }
 {
-    if let Verdict::Refused(refusal) = check(strip, pixels) {
-        return ImageRead::Refused(refusal);
-    }
-    whole(strip)
+    check(strip, pixels)?;
+    Ok(whole(strip))
 }
 
 // Copies the pixels of a strip to the front of an area: as `check`, then 13. All is judged before the first byte is stored.
-pub fn read(strip: Strip, pixels: &[u8], area: &mut [u8]) -> ImageRead
+pub fn read(strip: Strip, pixels: &[u8], area: &mut [u8]) -> Result<Size, Refusal>
     ensures { (result ≡ strip_read strip pixels.now (length area.old))
         × (area.new ≡ strip_area strip pixels.now area.old) }
 {
-    if let Verdict::Refused(refusal) = check(strip, pixels) {
-        return ImageRead::Refused(refusal);
-    }
+    check(strip, pixels)?;
     if area.len() < pixels.len() {
-        return ImageRead::Refused(verdict::refusal_of(verdict::AREA_SHORT, 0));
+        return verdict::refused(Rule::AreaShort, 0);
     }
     pixels::copy(pixels, area);
-    whole(strip)
+    Ok(whole(strip))
 }
 
 // The size of a strip as one image.
-fn whole(strip: Strip) -> ImageRead
-    requires { shape_verdict strip ≡ Accepted }
-    ensures { result ≡ ImageRead.Size (strip_width strip) (strip_height strip) }
+fn whole(strip: Strip) -> Size
+    requires { shape_verdict strip ≡ Ok tt }
+    ensures { result ≡ extent (strip_width strip) (strip_height strip) }
 {
-    let parts = strip.parts;
-    let heights = strip.heights;
-    ImageRead::Size {
+    Size {
         width: strip.widths[0],
-        height: sum(&heights[..parts]),
+        height: rows(strip.part_heights()),
     }
 }
 
@@ -109,62 +104,53 @@ pub fn write(strip: Strip, pixels: &[u8], out: &mut [u8]) -> Written
     ensures { (result ≡ strip_written strip pixels.now (length out.old))
         × (out.new ≡ strip_output strip pixels.now out.old) }
 {
-    if let Verdict::Refused(refusal) = check(strip, pixels) {
-        return Written::Refused(refusal);
-    }
-    let parts = strip.parts;
-    let heights = strip.heights;
+    check(strip, pixels)?;
+    let heights = strip.part_heights();
     let width = strip.widths[0];
-    let end = length_of(width, &heights[..parts]);
+    let end = length_of(width, heights);
     if out.len() < end {
-        return Written::Refused(verdict::refusal_of(verdict::AREA_SHORT, 0));
+        return verdict::refused(Rule::AreaShort, 0);
     }
-    write_parts(width, &heights[..parts], pixels, out);
-    Written::Length(end)
+    write_parts(width, heights, pixels, out);
+    Ok(end)
 }
 
-// 10: the lowest part of a bad size.
-fn check_sizes(widths: &[usize], heights: &[usize]) -> Verdict
-    requires { length heights.now ≡ length widths.now }
-    ensures { result ≡ refuse_at (first (λ i. bad_size (get_or widths.now i 0) (get_or heights.now i 0)) (length widths.now)) 10 suc }
+// The lowest part of a bad size.
+fn bad_size(widths: &[usize], heights: &[usize]) -> Option<usize>
+    ensures { result ≡ position (λ p. bad_size p.0 p.1) (zip widths.now heights.now) }
 {
-    let mut i = 0;
-    while i < widths.len() {
-        if size::is_bad(widths[i], heights[i]) {
-            return verdict::refused(verdict::SIZE_RANGE, i + 1);
-        }
-        i += 1;
-    }
-    Verdict::Accepted
+    widths
+        .iter()
+        .zip(heights)
+        .position(|part| size::is_bad(*part.0, *part.1))
 }
 
-// 23: the lowest part of another width than the first.
-fn check_widths(widths: &[usize]) -> Verdict
+// The lowest part of another width than the first.
+fn other_width(widths: &[usize]) -> Option<usize>
     requires { 0 < length widths.now }
-    ensures { result ≡ refuse_at (first (λ i. not (eqb (get_or widths.now i 0) (get_or widths.now 0 0))) (length widths.now)) 23 suc }
+    ensures { result ≡ position (λ w. not (w == slice_index widths.now 0)) widths.now }
 {
-    let mut i = 0;
-    while i < widths.len() {
-        if widths[i] != widths[0] {
-            return verdict::refused(verdict::PARTS, i + 1);
-        }
-        i += 1;
+    let first = widths[0];
+    widths.iter().position(|width| *width != first)
+}
+
+// Refuses the part that a search found, counted from 1.
+fn refuse_part(found: Option<usize>, rule: Rule) -> Verdict
+    requires { IfSome found (λ i. i < max_parts) }
+    ensures { result ≡ refuse_at found rule suc }
+{
+    match found {
+        Some(i) => verdict::refused(rule, i + 1),
+        None => Ok(()),
     }
-    Verdict::Accepted
 }
 
 // The rows of all parts.
-fn sum(heights: &[usize]) -> usize
-    requires { Heights heights.now }
-    ensures { result ≡ sum_of heights.now }
+fn rows(heights: &[usize]) -> usize
+    requires { sum heights.now ≤ max_rows }
+    ensures { result ≡ sum heights.now }
 {
-    let mut rows: usize = 0;
-    let mut i = 0;
-    while i < heights.len() {
-        rows += heights[i];
-        i += 1;
-    }
-    rows
+    heights.iter().sum()
 }
 
 // How many bytes the files of all parts have.
@@ -173,10 +159,11 @@ fn length_of(width: usize, heights: &[usize]) -> usize
     ensures { (px : List ℕ) → result ≡ length (strip_bytes width heights.now px) }
 {
     let mut bytes: usize = 0;
-    let mut i = 0;
-    while i < heights.len() {
-        bytes += file::length_of(width, heights[i]);
-        i += 1;
+    for height in heights {
+        bytes += file::length_of(Size {
+            width,
+            height: *height,
+        });
     }
     bytes
 }
@@ -189,19 +176,15 @@ fn write_parts(width: usize, heights: &[usize], pixels: &[u8], out: &mut [u8])
 {
     let mut from = 0;
     let mut to = 0;
-    let mut i = 0;
-    while i < heights.len() {
-        let height = heights[i];
-        let pixel_end = from + width * height;
-        let file_end = to + file::length_of(width, height);
-        file::put(
+    for height in heights {
+        let size = Size {
             width,
-            height,
-            &pixels[from..pixel_end],
-            &mut out[to..file_end],
-        );
+            height: *height,
+        };
+        let pixel_end = from + width * *height;
+        let file_end = to + file::length_of(size);
+        file::put(size, &pixels[from..pixel_end], &mut out[to..file_end]);
         from = pixel_end;
         to = file_end;
-        i += 1;
     }
 }

@@ -1,73 +1,68 @@
 // Unpacking a raster (01, The sheet): a byte gives up to eight pixels, the leftmost from the highest bit; unused bits give none.
-ghost use Rattle.std.specs.Prelude.{◌≡◌, ◌+◌, ◌*◌, ◌≤◌, length};
-ghost use Rattle.std.proofs.lemmas.List.Edits.{sets};
+ghost use Rattle.std.specs.Prelude.{◌≡◌, ◌*◌, ◌≤◌, length};
 ghost use Rattle.image.specs.Code.Rows.{Sides, byte_pixel, row_pixel};
 ghost use Rattle.image.specs.File.{pixels_of, area_rule, read_as};
-ghost use Rattle.image.specs.Size.{max_side, row_bytes};
+ghost use Rattle.image.specs.Size.{row_bytes};
 ghost use Rattle.seq.specs.Tab.{tab};
-ghost use Rattle.verdict.specs.Writer.{over, output_of};
+ghost use Rattle.verdict.specs.Writer.{output_of};
 
-use crate::size::BYTE_PIXELS;
-use crate::{ImageRead, size};
+use crate::size;
+use crate::size::{BYTE_PIXELS, Size};
+use verdict::{Refusal, Rule};
 
 const LEFTMOST_BIT: usize = 7;
 
 // The image in the front of an area, or 13.
-pub(crate) fn fill(raster: &[u8], width: usize, height: usize, area: &mut [u8]) -> ImageRead
-    requires { Sides width height × (length raster.now ≡ row_bytes width * height) }
-    ensures { (result ≡ read_as (area_rule width height (length area.old)) width height)
+pub(crate) fn fill(raster: &[u8], size: Size, area: &mut [u8]) -> Result<Size, Refusal>
+    requires { Sides size.width size.height × (length raster.now ≡ row_bytes size.width * size.height) }
+    ensures { (result ≡ read_as (area_rule size.width size.height (length area.old)) size.width size.height)
         × (area.new
-        ≡ output_of (area_rule width height (length area.old)) (pixels_of width height raster.now) area.old) }
+        ≡ output_of (area_rule size.width size.height (length area.old)) (pixels_of size.width size.height raster.now) area.old) }
 {
-    if area.len() < width * height {
-        return ImageRead::Refused(verdict::refusal_of(verdict::AREA_SHORT, 0));
+    let count = size.width * size.height;
+    if area.len() < count {
+        return verdict::refused(Rule::AreaShort, 0);
     }
-    image(raster, width, height, area);
-    ImageRead::Size { width, height }
+    image(raster, size, &mut area[..count]);
+    Ok(size)
 }
 
-// All rows; `from` is the place of a row's first byte, `to` that of its first pixel.
-fn image(raster: &[u8], width: usize, height: usize, area: &mut [u8])
-    requires { Sides width height × (length raster.now ≡ row_bytes width * height) × (width * height ≤ length area.old) }
-    ensures { area.new ≡ over (pixels_of width height raster.now) area.old }
+// All rows.
+fn image(raster: &[u8], size: Size, pixels: &mut [u8])
+    requires { Sides size.width size.height × (length raster.now ≡ row_bytes size.width * size.height)
+        × (length pixels.old ≡ size.width * size.height) }
+    ensures { pixels.new ≡ pixels_of size.width size.height raster.now }
 {
+    let Size { width, height } = size;
     let bytes = size::row_bytes(width);
-    let mut from = 0;
-    let mut to = 0;
-    let mut row = 0;
-    while row < height {
-        unpack_row(raster, from, width, area, to);
-        from += bytes;
-        to += width;
-        row += 1;
+    for row in 0..height {
+        let from = row * bytes;
+        let to = row * width;
+        unpack_row(&raster[from..from + bytes], &mut pixels[to..to + width]);
     }
 }
 
 // One row, byte by byte.
-fn unpack_row(raster: &[u8], from: usize, width: usize, area: &mut [u8], to: usize)
-    requires { (width ≤ max_side) × (from + row_bytes width ≤ length raster.now) × (to + width ≤ length area.old) }
-    ensures { area.new ≡ sets area.old to (tab (row_pixel raster.now from) width) }
+fn unpack_row(bytes: &[u8], row: &mut [u8])
+    requires { length bytes.now ≡ row_bytes (length row.old) }
+    ensures { row.new ≡ tab (row_pixel bytes.now) (length row.old) }
 {
-    let mut at = from;
-    let mut col = 0;
-    while col + BYTE_PIXELS <= width {
-        unpack_byte(raster[at], BYTE_PIXELS, area, to + col);
-        at += 1;
-        col += BYTE_PIXELS;
+    let whole = row.len() / BYTE_PIXELS;
+    for i in 0..whole {
+        let to = BYTE_PIXELS * i;
+        unpack_byte(bytes[i], &mut row[to..to + BYTE_PIXELS]);
     }
-    if col < width {
-        unpack_byte(raster[at], width - col, area, to + col);
+    if whole < bytes.len() {
+        unpack_byte(bytes[whole], &mut row[BYTE_PIXELS * whole..]);
     }
 }
 
-// The first `count` pixels of a byte.
-fn unpack_byte(byte: u8, count: usize, area: &mut [u8], to: usize)
-    requires { (count ≤ 8) × (to + count ≤ length area.old) }
-    ensures { area.new ≡ sets area.old to (tab (byte_pixel byte) count) }
+// The first pixels of a byte.
+fn unpack_byte(byte: u8, pixels: &mut [u8])
+    requires { length pixels.old ≤ 8 }
+    ensures { pixels.new ≡ tab (byte_pixel byte) (length pixels.old) }
 {
-    let mut k = 0;
-    while k < count {
-        area[to + k] = (byte >> (LEFTMOST_BIT - k)) % 2;
-        k += 1;
+    for (k, pixel) in pixels.iter_mut().enumerate() {
+        *pixel = (byte >> (LEFTMOST_BIT - k)) % 2;
     }
 }

@@ -1,15 +1,13 @@
 -- The work areas in the code.
 --     pick_even, pick_odd        the one of two lists that the parity names, by the code's test
 --     image_even, image_odd      the present image, by the code's test
---     part_length                the length of an area's part
 -- Assumes nothing.
 use mathlib.Core.Bool.{cond}
 use mathlib.Core.List.{List}
-use mathlib.Core.Path.{◌≡◌, sym, ap}
-use Prim.Native.Nat.{ℕ, ◌%◌, ◌≤◌}
+use mathlib.Core.Path.{◌≡◌, ap}
+use Prim.Native.Nat.{ℕ, ◌%◌}
 use borrow.Author.Tests.{eq-eqb, ne_eqb}
-use lib.ListN.{length, take}
-use lib.Seq.{length-take-le}
+use lib.ListN.{take}
 use Rattle.history.specs.State.{State, pixels, even, present, image}
 
 module _ (n : ℕ) (x y : List ℕ) where
@@ -26,6 +24,3 @@ image_even s e = ap (take (pixels s.job)) (pick_even s.job.passes s.first s.seco
 pub image_odd : (s : State) → (s.job.passes % 2 ≡ 0 → ⊥) → take (pixels s.job) s.second ≡ image s
 unfolding image present
 image_odd s h = ap (take (pixels s.job)) (pick_odd s.job.passes s.first s.second h)
-
-pub part_length : (n : ℕ) (l : List ℕ) → n ≤ length l → n ≡ length (take n l)
-part_length n l h = sym (length-take-le n l h)

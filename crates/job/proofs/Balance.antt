@@ -1,8 +1,6 @@
 -- The balance as a signed number of 64 bits.
 --     sub_pos           a difference of two numbers as integers
---     balance_fits      a difference of small numbers fits
---     balance_is        and is what the code computes
---     balance_stored    also where a variant holds it
+--     balance_stored    a difference of small numbers is what the code computes, where a variant holds it
 -- Assumes nothing.
 use mathlib.Core.Bool.{Bool, true, false, cond}
 use mathlib.Core.Path.{◌≡◌, refl, ap, ap₂, ◌∙◌}
@@ -32,12 +30,6 @@ module _ (a b : ℕ) (h : a + b ≤ max_strip) where
   difference : to_z w64 a -ℤ to_z w64 b ≡ sub_ℕ a b
   difference = ap₂ ◌-ℤ◌ (to_z_pos w64 a (omega arith)) (to_z_pos w64 b (omega arith)) ∙ sub_pos a b
 
-  pub balance_fits : SFits w64 (to_z w64 a -ℤ to_z w64 b)
-  balance_fits = rw difference fits
-
   -- as the variant of an enum stores it
   pub balance_stored : {z : ℤ} → z ≡ sub_ℕ a b → to_z w64 (of_z w64 z) ≡ sub_ℕ a b
   balance_stored e = rw e (to_z-of_z w64 (sub_ℕ a b) fits)
-
-  pub balance_is : to_z w64 (of_z w64 (to_z w64 a -ℤ to_z w64 b)) ≡ sub_ℕ a b
-  balance_is = balance_stored difference

@@ -2,14 +2,16 @@
 --     charged_as, charged_for_lem            one charge, and n at once: from the channel's reserve first, the others from the pool
 --     charged_taken                      the same by what was taken of the reserve
 --     rule_channel                       a channel that 25 lets pass is one of the four places
+--     rule_outside, rule_inside          25 by the code's tests
 --     kept_places, kept_at, kept_tab     the reserves that are read: four places, each of them, and all
 --     open_split                         opening is refused by 25 of a call of the last channel, or where the reserves are above the allowance
 --     open_above, open_within            by the sum of the reserves
 --     opened_refused, opened_whole       what opening hands back
 -- Assumes nothing.
+use Rattle.std.specs.Prelude.{Ok, Err}
 use mathlib.Core.Bool.{Bool, true, false, cond, not, ◌||◌, ◌&&◌}
 use mathlib.Core.List.{List}
-use mathlib.Core.Logic.{⊎_elim}
+use mathlib.Core.Logic.{◌⊎◌, inl, inr, ⊎_elim}
 use mathlib.Core.Path.{◌≡◌, refl, sym, ap, ap₂, ◌∙◌}
 use Prim.Native.Nat.{ℕ, zero, suc, ◌-◌, ◌≤◌, ◌<◌, min}
 use native.Mathlib.Omega.{arith}
@@ -19,6 +21,7 @@ use lib.ListN.{length, get_or, set}
 use lib.Seq.{set-get_or, set-set}
 use Rattle.history.specs.declared.Quota.{Quota}
 use Rattle.history.specs.Quota.{max_channels, kept, open_verdict, open_quota, lacks, channel_rule, left_of, charged, charged_for}
+use Rattle.verdict.specs.declared.Rule.TheVariants as why
 use Rattle.history.proofs.Quotas.{left_charged, rule_range, opened_accepted}
 use Rattle.image.specs.Size.{within}
 use Rattle.job.specs.Channels.{opened}
@@ -29,7 +32,6 @@ use Rattle.seq.proofs.Tests.{lt_or_le}
 use Rattle.seq.specs.Lists.{sum_of}
 use Rattle.seq.specs.Tab.{tab}
 use Rattle.verdict.specs.declared.Refusal.{Refusal}
-use Rattle.verdict.specs.declared.Verdict.TheVariants.{Accepted, Refused}
 use Rattle.verdict.specs.Rules.{refusal, refuse_if, or_else}
 
 -- a quota with other numbers left of the reserves, and another pool
@@ -40,7 +42,7 @@ holding q l p = record { channels = q.channels; allowance = q.allowance; reserve
 abbrev with : Quota → ℕ → ℕ → ℕ → Quota
 with q i l p = holding q (set q.left (i - 1) l) p
 
-pub charged_as : (q : Quota) (i : ℕ) → charged q i ≡ with q i (left_of q i - 1) (q.pool - (1 - left_of q i))
+charged_as : (q : Quota) (i : ℕ) → charged q i ≡ with q i (left_of q i - 1) (q.pool - (1 - left_of q i))
 unfolding charged
 charged_as q i = ⊎_elim reserve pool (either (ltb 0 (left_of q i)))
   where
@@ -71,7 +73,7 @@ pool_after p (suc x) n = rw (none, less) rest
     rest : p - 0 - (n - x) ≡ p - (suc n - suc x)
     rest = omega arith
 
-pub charged_for_lem : (n : ℕ) (q : Quota) (i : ℕ) → charged_for n q i ≡ with q i (left_of q i - n) (q.pool - (n - left_of q i))
+charged_for_lem : (n : ℕ) (q : Quota) (i : ℕ) → charged_for n q i ≡ with q i (left_of q i - n) (q.pool - (n - left_of q i))
 charged_for_lem zero q i =
     ap₂ (holding q)
     (sym (set-get_or q.left (i - 1) 0) ∙ ap (set q.left (i - 1)) (omega arith))
@@ -97,8 +99,29 @@ charged_taken q i n t e =
     let pool : n - t ≡ n - left_of q i = omega (arith, e) in
     rw (left, pool) (sym (charged_for_lem n q i))
 
-pub rule_channel : (q : Quota) (i : ℕ) → channel_rule q i ≡ Accepted → (1 ≤ i) × (i ≤ max_channels)
+pub rule_channel : (q : Quota) (i : ℕ) → channel_rule q i ≡ Ok tt → (1 ≤ i) × (i ≤ max_channels)
 rule_channel q i e = let range = rule_range q i e in (range.0, omega (arith, range.1, range.2))
+
+-- 25 by the code's tests
+module _ (q : Quota) (i : ℕ) where
+  pub rule_outside : (max_channels < q.channels) ⊎ ((i < 1) ⊎ (q.channels < i)) → channel_rule q i ≡ Err (refusal why.QuotaRange 0)
+  unfolding channel_rule lacks within
+  rule_outside (inl l) = rw (lt-ltb max_channels q.channels l)
+  rule_outside (inr (inl l)) = rw (lt-leb 1 i l) (by (ltb max_channels q.channels))
+    where
+      by : (b : Bool) → refuse_if (b || true) why.QuotaRange 0 ≡ Err (refusal why.QuotaRange 0)
+      by true = refl
+      by false = refl
+  rule_outside (inr (inr l)) = rw (lt-leb i q.channels l) (by (ltb max_channels q.channels) (leb 1 i))
+    where
+      by : (b t : Bool) → refuse_if (b || not (t && false)) why.QuotaRange 0 ≡ Err (refusal why.QuotaRange 0)
+      by true t = refl
+      by false true = refl
+      by false false = refl
+
+  pub rule_inside : q.channels ≤ max_channels → 1 ≤ i → i ≤ q.channels → channel_rule q i ≡ Ok tt
+  unfolding channel_rule lacks within
+  rule_inside few some last = rw (le-ltb max_channels q.channels few, le-leb 1 i some, le-leb i q.channels last)
 
 pub kept_places : (q : Quota) → length (kept q) ≡ max_channels
 unfolding kept
@@ -122,25 +145,25 @@ count_rule_lem n = ⊎_elim many few (lt_or_le max_channels n)
     few : n ≤ max_channels → (ltb max_channels n || not (leb 1 n && leb n n)) ≡ not (leb 1 n && leb n max_channels)
     few l = let own : n ≤ n = omega arith in rw (le-ltb max_channels n l, le-leb n n own, le-leb n max_channels l)
 
-pub open_split : (q : Quota) → open_verdict q ≡ or_else (channel_rule q q.channels) (refuse_if (ltb q.allowance (sum_of (kept q))) 25 0)
+pub open_split : (q : Quota) → open_verdict q ≡ or_else (channel_rule q q.channels) (refuse_if (ltb q.allowance (sum_of (kept q))) why.QuotaRange 0)
 unfolding open_verdict channel_rule lacks
 open_split q = rw (count_rule_lem q.channels) (by (not (within max_channels q.channels)) (ltb q.allowance (sum_of (kept q))))
   where
-    by : (a b : Bool) → refuse_if (a || b) 25 0 ≡ or_else (refuse_if a 25 0) (refuse_if b 25 0)
+    by : (a b : Bool) → refuse_if (a || b) why.QuotaRange 0 ≡ or_else (refuse_if a why.QuotaRange 0) (refuse_if b why.QuotaRange 0)
     by true b = refl
     by false b = refl
 
-module _ (q : Quota) (e : channel_rule q q.channels ≡ Accepted) where
-  pub open_above : q.allowance < sum_of (kept q) → open_verdict q ≡ Refused (refusal 25 0)
+module _ (q : Quota) (e : channel_rule q q.channels ≡ Ok tt) where
+  pub open_above : q.allowance < sum_of (kept q) → open_verdict q ≡ Err (refusal why.QuotaRange 0)
   open_above l = open_split q ∙ rw (e, lt-ltb _ _ l)
 
-  pub open_within : sum_of (kept q) ≤ q.allowance → open_verdict q ≡ Accepted
+  pub open_within : sum_of (kept q) ≤ q.allowance → open_verdict q ≡ Ok tt
   open_within l = open_split q ∙ rw (e, le-ltb _ _ l)
 
 module _ (q : Quota) where
-  pub opened_refused : {r : Refusal} → open_verdict q ≡ Refused r → opened q ≡ record { answer = Refused r; quota = q }
+  pub opened_refused : {r : Refusal} → open_verdict q ≡ Err r → opened q ≡ record { answer = Err r; quota = q }
   unfolding open_quota
   opened_refused e = rw e
 
-  pub opened_whole : open_verdict q ≡ Accepted → opened q ≡ opened_with q (kept q) (q.allowance - sum_of (kept q))
+  pub opened_whole : open_verdict q ≡ Ok tt → opened q ≡ opened_with q (kept q) (q.allowance - sum_of (kept q))
   opened_whole e = rw (e, opened_accepted q e)

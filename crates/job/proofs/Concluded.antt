@@ -1,11 +1,13 @@
 -- The filter's passes on a job that is ready and not at rest.
---     ready_one                a record with one part
---     Repeats s n a b m x y    the filter's answer m and the areas x and y, for at most n passes from the area a to b
+--     Answers s n a b q x y    the filter's answer q and the areas x and y, for at most n passes from the area a to b
+--     Repeats s n a b m x y    the same of the passes m, of which nothing is refused
 --     Holds s a b              the image stands in the area a; holds_even, holds_odd: in the area that the parity names
+--     repeats, never_refused   the filter refuses nothing of a record that is ready
 --     fits                     the record's counts with those passes do not wrap
 --     even_sum                 the parity of a sum
 --     made_even, made_odd      record and areas afterwards are those of the passes on the job
 -- Assumes nothing.
+use Rattle.std.specs.Prelude.{Ok, Err, Result}
 use mathlib.Core.Bool.{Bool, true, false, not}
 use mathlib.Core.List.{List}
 use mathlib.Core.Path.{◌≡◌, refl, sym, ap, ◌∙◌}
@@ -15,24 +17,31 @@ use borrow.Author.Tests.{eq-eqb, ne_eqb, eqb-true, eqb-false, le-ltb}
 use lib.ListN.{length, take}
 use Rattle.filter.specs.Applied.{pass_verdict}
 use Rattle.history.specs.declared.Job.{Job}
+use Rattle.history.specs.Answers.{Passed}
+use Rattle.history.specs.Pass.{Outcome}
 use Rattle.history.specs.Sound.{Ready}
 use Rattle.history.specs.State.{State, pixels, even, image}
 use Rattle.history.proofs.Ready.{ready_parts, ready_small, ready_single}
-use Rattle.image.specs.Strip.{max_parts, max_strip}
-use Rattle.job.specs.Code.Passes.{made, allowed, answer_of, of_one, done_on_one, concluded, Fit, Made}
-use Rattle.job.specs.Core.{stepped}
-use Rattle.job.specs.declared.Stepped.{Stepped}
+use Rattle.image.specs.Strip.{max_strip}
+use Rattle.job.specs.Code.Passes.{made, allowed, answer_of, of_one, done_on_one, after_done, Fit, Made, Places}
 use Rattle.job.specs.declared.step.Done.{Done}
 use Rattle.job.proofs.OnePart.{One, one_height, one_fit}
 use Rattle.filter.specs.declared.Repeated.{Repeated}
-use Rattle.filter.specs.Repeated.{begin, Ended, repeated, answered, first_area, second_area}
+use Rattle.filter.specs.Repeated.{begin, Ended, repeated, answered, answer, leaves, first_area, second_area}
 use Rattle.job.proofs.Trails.{standing, outcome, standing_image, standing_job, standing_first, standing_second, since_none, turn, followed, follow_made, Within, follow_within}
 use Rattle.seq.specs.Lists.{same}
-use Rattle.verdict.specs.declared.Verdict.TheVariants.{Accepted}
+use Rattle.verdict.specs.declared.Refusal.{Refusal}
 
--- the filter's passes with the record's table, size and budget
+-- the filter's passes with the record's table, size and budget: as it is asked for them, and as they are
+abbrev asked : Job → ℕ → List ℕ → List ℕ → Result Ended Refusal
+asked j n here there = repeated j.table j.width j.height (allowed j n) here there
+
 abbrev ended : Job → ℕ → List ℕ → List ℕ → Ended
-ended j n here there = repeated j.table j.width j.height (allowed j n) here there
+ended j n here there = followed j n n (begin here there)
+
+abbrev Answers : State → ℕ → List ℕ → List ℕ → Result Repeated Refusal → List ℕ → List ℕ → Type 0
+Answers s n here there q x y =
+    (q ≡ answer (asked s.job n here there)) × (x ≡ leaves first_area (asked s.job n here there) here) × (y ≡ leaves second_area (asked s.job n here there) there)
 
 abbrev Repeats : State → ℕ → List ℕ → List ℕ → Repeated → List ℕ → List ℕ → Type 0
 Repeats s n here there m x y =
@@ -51,11 +60,11 @@ module _ {s : State} (r : Ready s) where
   holds_odd t = record { same = rw (ne_eqb (s.job.passes % 2) 0 t); long = r.first }
 
 -- one part, with 16 places for counts
-pub ready_one : {s : State} → Ready s → s.job.strip.parts ≡ 1 → length s.job.counts.added ≡ max_parts → length s.job.counts.removed ≡ max_parts → One s.job
-ready_one r e a d = record { heights = one_height (ready_parts r) e; added_places = a; removed_places = d }
+ready_one : {s : State} → Ready s → s.job.strip.parts ≡ 1 → Places s.job → One s.job
+ready_one r e p = record { heights = one_height (ready_parts r) e; places = p }
 
-module _ {s : State} (r : Ready s) (h : s.job.stage ≡ 2 → ⊥) (single : s.job.strip.parts ≡ 1) (o : One s.job) (n : ℕ) {here there : List ℕ} (k : Holds s here there) where
-  accepted : pass_verdict s.job.table s.job.width s.job.height (take (pixels s.job) here) (length there) ≡ Accepted
+module _ {s : State} (r : Ready s) (h : s.job.stage ≡ 2 → ⊥) (single : s.job.strip.parts ≡ 1) (n : ℕ) {here there : List ℕ} (k : Holds s here there) where
+  accepted : pass_verdict s.job.table s.job.width s.job.height (take (pixels s.job) here) (length there) ≡ Ok tt
   unfolding pass_verdict
   accepted =
       let p : image s ≡ take (pixels s.job) here = ap image k.same ∙ standing_image s.job (begin here there) in
@@ -64,15 +73,27 @@ module _ {s : State} (r : Ready s) (h : s.job.stage ≡ 2 → ⊥) (single : s.j
   staged : s.job.stage ≡ 1
   staged = omega (arith, r.begun, r.staged)
 
-  follows : ended s.job n here there ≡ followed s.job n n (begin here there)
+  asked_is : asked s.job n here there ≡ Ok (ended s.job n here there)
   unfolding repeated
-  follows = rw accepted
+  asked_is = rw accepted refl
 
-  made_ended : made n s ≡ outcome s.job (ended s.job n here there)
-  made_ended =
+  module _ {q : Result Repeated Refusal} {x y : List ℕ} (f : Answers s n here there q x y) where
+    answer_is : q ≡ Ok (answered (ended s.job n here there))
+    answer_is = f.0 ∙ ap answer asked_is
+
+    pub repeats : {m : Repeated} → q ≡ Ok m → Repeats s n here there m x y
+    repeats {m} e =
+        let p : Ok m ≡ Ok (answered (ended s.job n here there)) = sym e ∙ answer_is in
+        let same : m ≡ answered (ended s.job n here there) = cc in
+        (same, f.1 ∙ ap (λ r. leaves first_area r here) asked_is, f.2 ∙ ap (λ r. leaves second_area r there) asked_is)
+
+    pub never_refused : {z : Refusal} → q ≡ Err z → ⊥
+    never_refused {z} e = let p : Err z ≡ Ok (answered (ended s.job n here there)) = sym e ∙ answer_is in let y : ◌≡◌ {A = ℕ} 0 1 = cc in omega arith
+
+  made_ended : One s.job → made n s ≡ outcome s.job (ended s.job n here there)
+  made_ended o =
       ap (made n) (k.same ∙ ap (λ (j : Job). standing j (begin here there)) (sym (since_none s.job o here there)))
       ∙ follow_made s.job o n staged r.passes r.counts n (begin here there)
-      ∙ ap (outcome s.job) (sym follows)
 
   within : Within (allowed s.job n) (followed s.job n n (begin here there)).trail
   within = follow_within _ _ _ (allowed s.job n) n (begin here there) (record { passes = omega arith; counts = omega arith })
@@ -84,9 +105,9 @@ module _ {s : State} (r : Ready s) (h : s.job.stage ≡ 2 → ⊥) (single : s.j
   fits {m} p =
       let few = ready_small r in
       let w = within in
-      let a : s.job.added + m.added ≤ max_strip = rw (p, follows) (omega (arith, r.counts, w.counts)) in
-      let d : s.job.removed + m.removed ≤ max_strip = rw (p, follows) (omega (arith, r.counts, w.counts)) in
-      (rw (p, follows) (omega (arith, r.passes, w.passes)), a, d, one_fit (ready_parts r) m.added m.removed a d)
+      let a : s.job.added + m.added ≤ max_strip = rw p (omega (arith, r.counts, w.counts)) in
+      let d : s.job.removed + m.removed ≤ max_strip = rw p (omega (arith, r.counts, w.counts)) in
+      (rw p (omega (arith, r.passes, w.passes)), a, d, one_fit (ready_parts r) m.added m.removed a d)
 
 even_sum : (p n : ℕ) → even (p + n) ≡ same (even p) (even n)
 even_sum p n = by (even p) refl (even n) refl
@@ -103,7 +124,7 @@ module _ (j : Job) (e : Ended) where
   afterwards = (outcome j e).state
 
   abbrev stood : Job
-  stood = (concluded j (done_on_one (answered e))).job
+  stood = after_done j (done_on_one (answered e))
 
   areas_even : even j.passes ≡ true → (first_area e ≡ afterwards.first) × (second_area e ≡ afterwards.second)
   unfolding first_area second_area
@@ -120,23 +141,31 @@ module _ (j : Job) (e : Ended) where
         rw (standing_second stood e.trail, q) (turn b e.trail.here e.trail.there),
       )
 
-module _ {s : State} (r : Ready s) (h : s.job.stage ≡ 2 → ⊥) (single : s.job.strip.parts ≡ 1) (one : One s.job) (n : ℕ) {m : Repeated} {d : Done} {o : Stepped}
-    (f : d ≡ done_on_one m) (c : o ≡ concluded s.job d) where
+module _ {s : State} (r : Ready s) (h : s.job.stage ≡ 2 → ⊥) (single : s.job.strip.parts ≡ 1) (n : ℕ) {m : Repeated} {d : Done}
+    {a : Passed} {j : Job} (f : d ≡ done_on_one m) (c : (a ≡ answer_of d.end) × (j ≡ after_done s.job d) × Places s.job) where
+  one : One s.job
+  one = ready_one r single c.2
+
   -- answer and record, whichever area the image stood in
-  record_is : {here there : List ℕ} → Holds s here there → m ≡ answered (ended s.job n here there) → o ≡ stepped (made n s)
+  record_is : {here there : List ℕ} → Holds s here there → m ≡ answered (ended s.job n here there)
+      → (a ≡ (made n s).answer) × (j ≡ (made n s).state.job)
   record_is {here} {there} k p =
       let e = ended s.job n here there in
-      c ∙ ap (concluded s.job) (f ∙ ap done_on_one p) ∙ ap (λ (j : Job). record { answer = answer_of e.end; job = j }) (sym (standing_job (stood s.job e) e.trail))
-      ∙ ap stepped (sym (made_ended r h single one n k))
+      let same = sym (made_ended r h single n k one) in (
+        c.0 ∙ ap (λ (d : Done). answer_of d.end) (f ∙ ap done_on_one p) ∙ ap (λ (o : Outcome). o.answer) same,
+        c.1 ∙ ap (after_done s.job) (f ∙ ap done_on_one p) ∙ sym (standing_job (stood s.job e) e.trail) ∙ ap (λ (o : Outcome). o.state.job) same,
+      )
 
-  pub made_even : s.job.passes % 2 ≡ 0 → {x y : List ℕ} → Repeats s n s.first s.second m x y → Made (made n s) o x y
+  pub made_even : s.job.passes % 2 ≡ 0 → {x y : List ℕ} → Repeats s n s.first s.second m x y → Made (made n s) a j x y
   made_even t g =
       let k = holds_even r t in
-      let a = areas_even s.job (ended s.job n s.first s.second) (eq-eqb (s.job.passes % 2) 0 t) in
-      (record_is k g.0, rw (made_ended r h single one n k) (g.1 ∙ a.0), rw (made_ended r h single one n k) (g.2 ∙ a.1))
+      let areas = areas_even s.job (ended s.job n s.first s.second) (eq-eqb (s.job.passes % 2) 0 t) in
+      let step = record_is k g.0 in
+      (step.0, step.1, rw (made_ended r h single n k one) (g.1 ∙ areas.0), rw (made_ended r h single n k one) (g.2 ∙ areas.1))
 
-  pub made_odd : (s.job.passes % 2 ≡ 0 → ⊥) → {x y : List ℕ} → Repeats s n s.second s.first m y x → Made (made n s) o x y
+  pub made_odd : (s.job.passes % 2 ≡ 0 → ⊥) → {x y : List ℕ} → Repeats s n s.second s.first m y x → Made (made n s) a j x y
   made_odd t g =
       let k = holds_odd r t in
-      let a = areas_odd s.job (ended s.job n s.second s.first) (ne_eqb (s.job.passes % 2) 0 t) in
-      (record_is k g.0, rw (made_ended r h single one n k) (g.2 ∙ a.0), rw (made_ended r h single one n k) (g.1 ∙ a.1))
+      let areas = areas_odd s.job (ended s.job n s.second s.first) (ne_eqb (s.job.passes % 2) 0 t) in
+      let step = record_is k g.0 in
+      (step.0, step.1, rw (made_ended r h single n k one) (g.2 ∙ areas.0), rw (made_ended r h single n k one) (g.1 ∙ areas.1))

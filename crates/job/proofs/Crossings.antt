@@ -2,13 +2,14 @@
 --     counts_none                 no count more
 --     admitted, next_is           the filter admits a ready record's strip, and makes the job's next image
 --     room_changing, room_quiet   there is no room exactly where 14's pass clause holds
---     Places j                    the record has 16 places for counts
 --     by_room                     the filter was given the room: its answer and area are those of the room
 --     record_is, to_second, to_first     answer and record, and the areas
---     Crosses s px there c x      the filter's answer c and the area x, from the image px to the area there
+--     never_refused               the filter's answer is no refusal, whatever the room
+--     Crosses s px there q x      the filter's answer q and the area x, from the image px to the area there
 --     crossing_fits               the record's counts with that pass do not wrap
 --     crossed_even, crossed_odd   record and areas afterwards are those of the pass on the job
 -- Assumes nothing.
+use Rattle.std.specs.Prelude.{Ok, Err, Result}
 use mathlib.Core.Bool.{Bool, true, false, cond}
 use mathlib.Core.List.{List}
 use mathlib.Core.Path.{◌≡◌, refl, sym, ap, ap₂, ◌∙◌}
@@ -21,19 +22,19 @@ use lib.ListN.{length, get_or}
 use Rattle.filter.specs.Crossed.{cross_verdict, across, overfull, crossed_if, crossed, crossed_area}
 use Rattle.filter.specs.declared.Crossed.{Crossed}
 use Rattle.filter.specs.declared.End.TheVariants as ending
+use Rattle.history.specs.declared.Effect.TheVariants.{Changed, Stable}
 use Rattle.history.specs.declared.Job.{Job}
-use Rattle.history.specs.declared.Passed.TheVariants as passed
+use Rattle.history.specs.Answers.{Passed}
 use Rattle.history.specs.Pass.{next_image, now_added, now_removed, now_counts, exceeds, with_next, changed_job, stable_job, changing, pass_loaded}
 use Rattle.history.specs.Sound.{Ready}
 use Rattle.history.specs.State.{State, pixels, even, image}
+use Rattle.verdict.specs.declared.Rule.TheVariants as why
 use Rattle.history.proofs.Areas.{next_job}
 use Rattle.history.proofs.Ready.{ready_parts, ready_small, ready_image, ready_next, ready_writable}
 use Rattle.image.specs.declared.strip.Strip.{Strip}
 use Rattle.image.specs.Strip.{max_parts, max_strip, heights_of, strip_width, strip_height, no_counts}
 use Rattle.image.proofs.Shapes.{padded_whole, padded_tab, shape_count}
-use Rattle.job.specs.Code.Passes.{after, concluded, Fit, room_of, passes_of, done_on, Made}
-use Rattle.job.specs.Core.{stepped}
-use Rattle.job.specs.declared.Stepped.{Stepped}
+use Rattle.job.specs.Code.Passes.{after, answer_of, after_done, Fit, room_of, passes_of, done_on, Made, Places}
 use Rattle.job.specs.declared.step.Done.{Done}
 use Rattle.job.proofs.Counts.{ltb_sub}
 use Rattle.job.proofs.OnePart.{place_few}
@@ -48,7 +49,7 @@ use Rattle.seq.proofs.Tests.{or_none_left}
 use Rattle.seq.specs.Lists.{sum_of}
 use Rattle.seq.specs.Tab.{tab}
 use Rattle.table.specs.declared.Table.{Table}
-use Rattle.verdict.specs.declared.Verdict.TheVariants.{Accepted}
+use Rattle.verdict.specs.declared.Refusal.{Refusal}
 use Rattle.verdict.specs.Rules.{refusal}
 use Rattle.verdict.specs.Writer.{over}
 
@@ -56,11 +57,6 @@ none_more : (xs : List ℕ) → length xs ≡ max_parts → tab (λ i. get_or xs
 none_more xs e =
     tab_ext (λ i. get_or xs i 0 + get_or (tab (λ k. 0) max_parts) i 0) (λ i. get_or xs i 0) max_parts (λ i l. omega (arith, get_d_tab {A = ℕ} (λ k. 0) max_parts i 0 l))
     ∙ padded_whole xs e
-
--- the record has 16 places for counts
-pub record Places (j : Job) : Type 0 where
-  pub added : length j.counts.added ≡ max_parts
-  pub removed : length j.counts.removed ≡ max_parts
 
 counts_none : {j : Job} → Places j → summed j.counts no_counts ≡ j.counts
 unfolding summed
@@ -71,12 +67,12 @@ part_few : (f : ℕ → ℕ) {n : ℕ} → sum_of (tab f max_parts) ≡ n → (i
 part_few f e i l = omega (arith, place_few (tab f max_parts) i l, ap sum_of (padded_tab f), e)
 
 -- the filter was given a number, and the number is the room
-pub by_room : (t : Table) (p : Strip) (px there : List ℕ) {n room : ℕ} {c : Crossed} {x : List ℕ} → n ≡ room
-    → (c ≡ crossed t p n px (length there)) × (x ≡ crossed_area t p n px there)
-    → (c ≡ crossed t p room px (length there)) × (x ≡ crossed_area t p room px there)
+pub by_room : (t : Table) (p : Strip) (px there : List ℕ) {n room : ℕ} {q : Result Crossed Refusal} {x : List ℕ} → n ≡ room
+    → (q ≡ crossed t p n px (length there)) × (x ≡ crossed_area t p n px there)
+    → (q ≡ crossed t p room px (length there)) × (x ≡ crossed_area t p room px there)
 by_room t p px there e f = (f.0 ∙ ap (λ k. crossed t p k px (length there)) e, f.1 ∙ ap (λ k. crossed_area t p k px there) e)
 
-module _ {s : State} (r : Ready s) (h : s.job.stage ≡ 2 → ⊥) (o : Places s.job) where
+module _ {s : State} (r : Ready s) (h : s.job.stage ≡ 2 → ⊥) where
   abbrev job : Job
   job = s.job
 
@@ -101,15 +97,15 @@ module _ {s : State} (r : Ready s) (h : s.job.stage ≡ 2 → ⊥) (o : Places s
   next_is = ap₂ (λ w k. pass job.table w k here) (sym (ready_parts r).width) (sym (ready_parts r).height)
 
   module _ (there : List ℕ) (long : pixels job ≤ length there) where
-    admitted : cross_verdict job.table job.strip here (length there) ≡ Accepted
+    admitted : cross_verdict job.table job.strip here (length there) ≡ Ok tt
     unfolding cross_verdict
     admitted =
         let size : strip_width job.strip * strip_height job.strip ≤ length there = rw (sym (ready_parts r).width, sym (ready_parts r).height) long in
         rw (r.table, ready_writable r, le-ltb _ _ size)
 
-    answer_is : crossed job.table job.strip (room_of job) here (length there) ≡ crossed_if full job.strip here next
+    answer_is : (n : ℕ) → crossed job.table job.strip n here (length there) ≡ Ok (crossed_if (overfull n here next) job.strip here next)
     unfolding crossed
-    answer_is = rw (admitted, next_is)
+    answer_is n = rw (admitted, next_is)
 
     area_is : crossed_area job.table job.strip (room_of job) here there ≡ cond full there (over next there)
     unfolding crossed_area
@@ -213,17 +209,17 @@ module _ {s : State} (r : Ready s) (h : s.job.stage ≡ 2 → ⊥) (o : Places s
       )
 
   -- the record afterwards
-  job_same : after job job.stage 0 0 0 no_counts ≡ job
-  job_same = rw (counts_none o, add-zero job.passes, add-zero job.added, add-zero job.removed)
+  job_same : Places job → after job job.stage 0 0 0 no_counts ≡ job
+  job_same o = rw (counts_none o, add-zero job.passes, add-zero job.added, add-zero job.removed)
 
   job_changed : after job job.stage 1 (added here next) (removed here next) (part_counts (strip_width job.strip) (heights_of job.strip) here next) ≡ changed_job s
   unfolding changed_job now_added now_removed now_counts
   job_changed = rw (staged, (ready_parts r).width)
 
-  job_stable : differs here next ≡ false
+  job_stable : Places job → differs here next ≡ false
       → after job 2 0 (added here next) (removed here next) (part_counts (strip_width job.strip) (heights_of job.strip) here next) ≡ stable_job s
   unfolding stable_job
-  job_stable d =
+  job_stable o d =
       let x : added here next ≡ 0 = omega (arith, changes_none d) in
       let y : removed here next ≡ 0 = omega (arith, changes_none d) in
       let z : part_counts (strip_width job.strip) (heights_of job.strip) here next ≡ no_counts =
@@ -231,26 +227,30 @@ module _ {s : State} (r : Ready s) (h : s.job.stage ≡ 2 → ⊥) (o : Places s
       rw (z, x, y, counts_none o, add-zero job.passes, add-zero job.added, add-zero job.removed)
 
   -- the three ways that the pass goes
-  pass_rests : differs here next ≡ false → pass_loaded s ≡ record { answer = passed.Stable; state = with_next (stable_job s) s }
+  pass_rests : differs here next ≡ false → pass_loaded s ≡ record { answer = (Ok Stable); state = with_next (stable_job s) s }
   unfolding pass_loaded
   pass_rests d = rw d
 
-  pass_stops : differs here next ≡ true → exceeds s ≡ true → pass_loaded s ≡ record { answer = passed.Refused (refusal 14 0); state = s }
+  pass_stops : differs here next ≡ true → exceeds s ≡ true → pass_loaded s ≡ record { answer = Err (refusal why.Unsound 0); state = s }
   unfolding pass_loaded changing
   pass_stops d x = rw (d, x)
 
-  pass_goes : differs here next ≡ true → exceeds s ≡ false → pass_loaded s ≡ record { answer = passed.Changed; state = with_next (changed_job s) s }
+  pass_goes : differs here next ≡ true → exceeds s ≡ false → pass_loaded s ≡ record { answer = (Ok Changed); state = with_next (changed_job s) s }
   unfolding pass_loaded changing
   pass_goes d x = rw (d, x)
 
   -- answer and record
-  record_is : concluded job (done_on (crossed_if full job.strip here next)) ≡ stepped (pass_loaded s)
-  record_is = by (differs here next) refl (exceeds s) refl
+  abbrev crossed_here : Done
+  crossed_here = done_on (crossed_if full job.strip here next)
+
+  record_is : Places job → (answer_of crossed_here.end ≡ (pass_loaded s).answer) × (after_done job crossed_here ≡ (pass_loaded s).state.job)
+  record_is o = by (differs here next) refl (exceeds s) refl
     where
-      by : (d : Bool) → differs here next ≡ d → (x : Bool) → exceeds s ≡ x → concluded job (done_on (crossed_if full job.strip here next)) ≡ stepped (pass_loaded s)
-      by false d x e = rw (room_quiet d, pass_rests d, d, job_stable d, next_job (stable_job s) s)
-      by true d true e = rw (room_changing d, e, pass_stops d e, job_same)
-      by true d false e = rw (room_changing d, e, pass_goes d e, d, job_changed, next_job (changed_job s) s)
+      by : (d : Bool) → differs here next ≡ d → (x : Bool) → exceeds s ≡ x
+          → (answer_of crossed_here.end ≡ (pass_loaded s).answer) × (after_done job crossed_here ≡ (pass_loaded s).state.job)
+      by false d x e = rw (room_quiet d, pass_rests d, d, job_stable o d, next_job (stable_job s) s) (refl, refl)
+      by true d true e = rw (room_changing d, e, pass_stops d e, job_same o) (refl, refl)
+      by true d false e = rw (room_changing d, e, pass_goes d e, d, job_changed, next_job (changed_job s) s) (refl, refl)
 
   -- the areas, where the next image goes to the second, and to the first
   to_second : even job.passes ≡ true → (s.first ≡ (pass_loaded s).state.first) × (cond full s.second (over next s.second) ≡ (pass_loaded s).state.second)
@@ -274,31 +274,52 @@ module _ {s : State} (r : Ready s) (h : s.job.stage ≡ 2 → ⊥) (o : Places s
       by true d false e = rw (room_changing d, e, pass_goes d e, t) (refl, refl)
 
 -- the filter's answer and what it leaves, from the image px to the area `there`
-abbrev pub Crosses : State → List ℕ → List ℕ → Crossed → List ℕ → Type 0
-Crosses s px there c x =
-    (c ≡ crossed s.job.table s.job.strip (room_of s.job) px (length there)) × (x ≡ crossed_area s.job.table s.job.strip (room_of s.job) px there)
+abbrev pub Crosses : State → List ℕ → List ℕ → Result Crossed Refusal → List ℕ → Type 0
+Crosses s px there q x =
+    (q ≡ crossed s.job.table s.job.strip (room_of s.job) px (length there)) × (x ≡ crossed_area s.job.table s.job.strip (room_of s.job) px there)
 
-module _ {s : State} (r : Ready s) (h : s.job.stage ≡ 2 → ⊥) (o : Places s.job) (there : List ℕ) {px x : List ℕ} (long : pixels s.job ≤ length there) (seen : px ≡ image s)
-    {c : Crossed} (f : Crosses s px there c x) {d : Done} (e : d ≡ done_on c) where
-  done_is : d ≡ done_on (crossed_if (full r h o) s.job.strip (image s) (next_image s))
-  done_is = e ∙ ap done_on (f.0 ∙ ap (λ (l : List ℕ). crossed s.job.table s.job.strip (room_of s.job) l (length there)) seen ∙ answer_is r h o there long)
+module _ {s : State} (r : Ready s) (h : s.job.stage ≡ 2 → ⊥) (there : List ℕ) {px : List ℕ} (long : pixels s.job ≤ length there) (seen : px ≡ image s)
+    {q : Result Crossed Refusal} where
+  crossed_is : (n : ℕ) → q ≡ crossed s.job.table s.job.strip n px (length there)
+      → q ≡ Ok (crossed_if (overfull n (image s) (next_image s)) s.job.strip (image s) (next_image s))
+  crossed_is n f = f ∙ ap (λ (l : List ℕ). crossed s.job.table s.job.strip n l (length there)) seen ∙ answer_is r h there long n
 
-  left_is : x ≡ cond (full r h o) there (over (next_image s) there)
-  left_is = f.1 ∙ ap (λ (l : List ℕ). crossed_area s.job.table s.job.strip (room_of s.job) l there) seen ∙ area_is r h o there long
+  pub never_refused : (n : ℕ) {z : Refusal} → q ≡ crossed s.job.table s.job.strip n px (length there) → q ≡ Err z → ⊥
+  never_refused n {z} f m =
+      let p : Err z ≡ Ok (crossed_if (overfull n (image s) (next_image s)) s.job.strip (image s) (next_image s)) = sym m ∙ crossed_is n f in
+      let y : ◌≡◌ {A = ℕ} 0 1 = cc in
+      omega arith
 
-  pub crossing_fits : (s.job.passes + d.passes ≤ max_strip) × (s.job.added + d.added ≤ max_strip) × (s.job.removed + d.removed ≤ max_strip) × Fit s.job.counts d.parts
-  crossing_fits = rw done_is (done_fits r h o (full r h o) refl)
+module _ {s : State} (r : Ready s) (h : s.job.stage ≡ 2 → ⊥) (there : List ℕ) {px x : List ℕ} (long : pixels s.job ≤ length there) (seen : px ≡ image s)
+    {q : Result Crossed Refusal} (f : Crosses s px there q x) where
+  left_is : x ≡ cond (full r h) there (over (next_image s) there)
+  left_is = f.1 ∙ ap (λ (l : List ℕ). crossed_area s.job.table s.job.strip (room_of s.job) l there) seen ∙ area_is r h there long
 
-  crossing_record : {p : Stepped} → p ≡ concluded s.job d → p ≡ stepped (pass_loaded s)
-  crossing_record q = q ∙ ap (concluded s.job) done_is ∙ record_is r h o
+  module _ {c : Crossed} (m : q ≡ Ok c) {d : Done} (e : d ≡ done_on c) where
+    done_is : d ≡ done_on (crossed_if (full r h) s.job.strip (image s) (next_image s))
+    done_is =
+        let p : Ok c ≡ Ok (crossed_if (full r h) s.job.strip (image s) (next_image s)) = sym m ∙ crossed_is r h there long seen _ f.0 in
+        let same : c ≡ crossed_if (full r h) s.job.strip (image s) (next_image s) = cc in
+        e ∙ ap done_on same
 
-module _ {s : State} (r : Ready s) (h : s.job.stage ≡ 2 → ⊥) (o : Places s.job) {x : List ℕ} {c : Crossed} {d : Done} {p : Stepped} (e : d ≡ done_on c) (q : p ≡ concluded s.job d) where
-  pub crossed_even : s.job.passes % 2 ≡ 0 → {px : List ℕ} → px ≡ image s → Crosses s px s.second c x → Made (pass_loaded s) p s.first x
+    pub crossing_fits : (s.job.passes + d.passes ≤ max_strip) × (s.job.added + d.added ≤ max_strip) × (s.job.removed + d.removed ≤ max_strip) × Fit s.job.counts d.parts
+    crossing_fits = rw done_is (done_fits r h (full r h) refl)
+
+    crossing_record : {a : Passed} {j : Job} → (a ≡ answer_of d.end) × (j ≡ after_done s.job d) × Places s.job → (a ≡ (pass_loaded s).answer) × (j ≡ (pass_loaded s).state.job)
+    crossing_record k =
+        let same = record_is r h k.2 in
+        (k.0 ∙ ap (λ (d : Done). answer_of d.end) done_is ∙ same.0, k.1 ∙ ap (after_done s.job) done_is ∙ same.1)
+
+module _ {s : State} (r : Ready s) (h : s.job.stage ≡ 2 → ⊥) {x : List ℕ} {q : Result Crossed Refusal} {c : Crossed} (m : q ≡ Ok c) {d : Done} {a : Passed} {j : Job} (e : d ≡ done_on c)
+    (k : (a ≡ answer_of d.end) × (j ≡ after_done s.job d) × Places s.job) where
+  pub crossed_even : s.job.passes % 2 ≡ 0 → {px : List ℕ} → px ≡ image s → Crosses s px s.second q x → Made (pass_loaded s) a j s.first x
   crossed_even t seen f =
-      let areas = to_second r h o (eq-eqb (s.job.passes % 2) 0 t) in
-      (crossing_record r h o s.second r.second seen f e q, areas.0, left_is r h o s.second r.second seen f e ∙ areas.1)
+      let areas = to_second r h (eq-eqb (s.job.passes % 2) 0 t) in
+      let step = crossing_record r h s.second r.second seen f m e k in
+      (step.0, step.1, areas.0, left_is r h s.second r.second seen f ∙ areas.1)
 
-  pub crossed_odd : (s.job.passes % 2 ≡ 0 → ⊥) → {px : List ℕ} → px ≡ image s → Crosses s px s.first c x → Made (pass_loaded s) p x s.second
+  pub crossed_odd : (s.job.passes % 2 ≡ 0 → ⊥) → {px : List ℕ} → px ≡ image s → Crosses s px s.first q x → Made (pass_loaded s) a j x s.second
   crossed_odd t seen f =
-      let areas = to_first r h o (ne_eqb (s.job.passes % 2) 0 t) in
-      (crossing_record r h o s.first r.first seen f e q, left_is r h o s.first r.first seen f e ∙ areas.0, areas.1)
+      let areas = to_first r h (ne_eqb (s.job.passes % 2) 0 t) in
+      let step = crossing_record r h s.first r.first seen f m e k in
+      (step.0, step.1, left_is r h s.first r.first seen f ∙ areas.0, areas.1)

@@ -20,7 +20,7 @@ use Rattle.image.specs.declared.strip.PartCounts.{PartCounts}
 use Rattle.image.specs.Strip.{max_parts, max_strip, padded, heights_of}
 use Rattle.image.proofs.Parts.{first_part, part_ends}
 use Rattle.image.proofs.Shapes.{shape_count, padded_whole}
-use Rattle.job.specs.Code.Passes.{of_one, Fit}
+use Rattle.job.specs.Code.Passes.{of_one, Fit, Places}
 use Rattle.operator.specs.Image.{added, removed}
 use Rattle.operator.specs.Parts.{added_in, removed_in, part_counts, summed}
 use Rattle.operator.specs.Pass.{pass_at, pass}
@@ -32,8 +32,7 @@ use Rattle.table.specs.declared.Table.{Table}
 
 pub record One (j : Job) : Type 0 where
   pub heights : heights_of j.strip ≡ j.height ∷ []
-  pub added_places : length j.counts.added ≡ max_parts
-  pub removed_places : length j.counts.removed ≡ max_parts
+  pub places : Places j
 
 single : (l : List ℕ) → length l ≡ 1 → l ≡ sum_of l ∷ []
 single [] e = absurd (omega arith)
@@ -56,7 +55,7 @@ one_more xs e =
 
 pub one_none : {j : Job} → One j → summed j.counts (of_one 0 0) ≡ j.counts
 unfolding summed
-one_none {j} o = ap₂ (λ (a d : List ℕ). record { added = a; removed = d }) (one_more j.counts.added o.added_places) (one_more j.counts.removed o.removed_places)
+one_none {j} o = ap₂ (λ (a d : List ℕ). record { added = a; removed = d }) (one_more j.counts.added o.places.added) (one_more j.counts.removed o.places.removed)
 
 -- the image that a pass sees is its one part, and so is the next one
 module _ (t : Table) (w h : ℕ) (here px : List ℕ) where

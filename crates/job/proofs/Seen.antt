@@ -1,11 +1,11 @@
 -- A loop that joins the numbers of a list by `or`: some number passed has a bit at or above k exactly when the join has one.
 --     above_or      a join is above 2 ^ k − 1 exactly when one of the two is
 --     seen_more     where the loop stands, one number more
---     seen_zero     at its end: the join is 0 exactly when each number is
+--     some_nonzero  a number of a list is not 0 exactly when not all are
 --     nonzero_join, nonzero_persistents, nonzero_elements, nonzero_parts    a record with a nonzero field, by the code's tests
 -- Assumes nothing.
 use mathlib.Core.Bool.{Bool, true, false, not, ◌&&◌, ◌||◌, and_assoc, and-false}
-use mathlib.Core.List.{List}
+use mathlib.Core.List.{List, [], ◌∷◌}
 use mathlib.Core.Path.{◌≡◌, refl, sym, ap, ap₂, ◌∙◌}
 use Prim.Native.Nat.{ℕ, ◌+◌, ◌-◌, ◌^◌, ◌<◌}
 use native.Mathlib.Omega.{arith}
@@ -14,19 +14,20 @@ use lib.Bits.{bit_or, or_lt, or_add_and, and_le_l, and_le_r}
 use lib.Dec.{ltb, eqb}
 use lib.ListN.{length, get_or, take}
 use lib.Pow.{pow_pos}
+use Rattle.std.specs.List.{list_any}
 use Rattle.history.specs.declared.Job.{Job}
 use Rattle.history.specs.State.{part_fields, nonzero}
 use Rattle.job.specs.Code.Parts.{set_from}
 use Rattle.seq.specs.Lists.{any, all, join}
 use Rattle.seq.proofs.Fronts.{any_front, all_append, all_join}
-use Rattle.seq.proofs.Lists.{any_ext, not_all}
+use Rattle.seq.proofs.Lists.{not_all}
 
 module _ (k : ℕ) where
   -- the largest number below bit k
   abbrev pub low : ℕ
   low = 2 ^ k - 1
 
-  pub above_or : (a b : ℕ) → ltb low (bit_or a b) ≡ (ltb low a || ltb low b)
+  above_or : (a b : ℕ) → ltb low (bit_or a b) ≡ (ltb low a || ltb low b)
   above_or a b = step (ltb low a) refl (ltb low b) refl
     where
       step : (p : Bool) → ltb low a ≡ p → (q : Bool) → ltb low b ≡ q → ltb low (bit_or a b) ≡ (p || q)
@@ -44,14 +45,6 @@ module _ (k : ℕ) where
       ∙ ap (λ (b : Bool). b || ltb low (get_or l i 0)) e
       ∙ sym (any_front (ltb low) l i 0 h)
 
--- above 0 is not 0, whichever side 0 stands on
-above_zero : (n : ℕ) → ltb 0 n ≡ not (eqb 0 n)
-above_zero n = step (eqb 0 n) refl
-  where
-    step : (b : Bool) → eqb 0 n ≡ b → ltb 0 n ≡ not b
-    step true e = le-ltb 0 n (omega (arith, eqb-true 0 n e))
-    step false e = lt-ltb 0 n (let z = eqb-false 0 n e in omega arith)
-
 eqb_swap : (n : ℕ) → eqb n 0 ≡ eqb 0 n
 eqb_swap n = step (eqb 0 n) refl
   where
@@ -59,13 +52,13 @@ eqb_swap n = step (eqb 0 n) refl
     step true e = eq-eqb n 0 (sym (eqb-true 0 n e))
     step false e = ne_eqb n 0 (λ z. eqb-false 0 n e (sym z))
 
-pub seen_zero : (l : List ℕ) (seen : ℕ) → ltb 0 seen ≡ any (ltb 0) l → not (eqb seen 0) ≡ not (all (eqb 0) l)
-seen_zero l seen e =
-    ap not (eqb_swap seen)
-    ∙ sym (above_zero seen)
-    ∙ e
-    ∙ any_ext (ltb 0) (λ n. not (eqb 0 n)) l (λ n m. above_zero n)
-    ∙ sym (not_all (eqb 0) l)
+pub some_nonzero : (l : List ℕ) → list_any (λ n. not (eqb n 0)) l ≡ not (all (eqb 0) l)
+some_nonzero [] = refl
+some_nonzero (n ∷ l) = rw (eqb_swap n, some_nonzero l) (step (eqb 0 n))
+  where
+    step : (b : Bool) → (not b || not (all (eqb 0) l)) ≡ not (b && all (eqb 0) l)
+    step true = refl
+    step false = refl
 
 -- a join is 0 exactly when both are
 zero_or : (a b : ℕ) → eqb 0 (bit_or a b) ≡ (eqb 0 a && eqb 0 b)

@@ -10,6 +10,7 @@
 --     follow_made                   the filter's passes are the passes on the job
 --     Within b c, follow_within     the filter keeps to its budget
 -- Assumes nothing.
+use Rattle.std.specs.Prelude.{Ok, Err}
 use mathlib.Core.Bool.{Bool, true, false, cond, not, ◌||◌}
 use mathlib.Core.List.{List}
 use mathlib.Core.Logic.{⊎_elim}
@@ -20,12 +21,13 @@ use native.Mathlib.Omega.{arith}
 use borrow.Author.Tests.{ltb-false}
 use lib.Dec.{ltb}
 use lib.ListN.{take}
+use Rattle.history.specs.declared.Effect.TheVariants.{Changed, Stable}
 use Rattle.history.specs.declared.Job.{Job}
-use Rattle.history.specs.declared.Passed.TheVariants as passed
 use Rattle.history.specs.Pass.{Outcome, next_image, now_added, now_removed, now_counts, exceeds, with_next, changed_job, stable_job, changing, pass_loaded}
 use Rattle.history.specs.State.{State, pixels, even, present, image}
+use Rattle.verdict.specs.declared.Rule.TheVariants as why
 use Rattle.history.proofs.Areas.{even_next}
-use Rattle.job.specs.Code.Passes.{made, allowed, answer_of, of_one, done_on_one, after, concluded}
+use Rattle.job.specs.Code.Passes.{made, allowed, answer_of, of_one, done_on_one, after, after_done}
 use Rattle.job.specs.Core.{at}
 use Rattle.filter.specs.declared.Budget.{Budget}
 use Rattle.filter.specs.Repeated.{Trail, begin, shown, next, onward, stops, rested, Ended, follow, answered}
@@ -47,7 +49,7 @@ abbrev pub since : Job → Trail → Job
 since j c = after j j.stage c.passes c.added c.removed (of_one c.added c.removed)
 
 abbrev pub outcome : Job → Ended → Outcome
-outcome j e = record { answer = answer_of e.end; state = standing (concluded j (done_on_one (answered e))).job e.trail }
+outcome j e = record { answer = answer_of e.end; state = standing (after_done j (done_on_one (answered e))) e.trail }
 
 module _ (j : Job) (c : Trail) where
   pub standing_image : image (standing j c) ≡ take (pixels j) c.here
@@ -167,17 +169,17 @@ module _ (j : Job) (o : One j) (c : Trail) (s : State) (e : s ≡ standing (sinc
   changes d = let f : differs (image s) (next_image s) ≡ true = rw (next_here, image_here) d in rw f
 
   pass_rests : differs (before j c) (upcoming j c) ≡ false
-      → pass_loaded s ≡ record { answer = passed.Stable; state = standing (rested_job j c) (resting j c) }
+      → pass_loaded s ≡ record { answer = (Ok Stable); state = standing (rested_job j c) (resting j c) }
   unfolding pass_loaded
   pass_rests d = let f : differs (image s) (next_image s) ≡ false = rw (next_here, image_here) d in rw (f, rested_here)
 
   module _ (n : ℕ) (p : j.passes ≤ pixels j) (q : j.added + j.removed ≤ pixels j) (d : differs (before j c) (upcoming j c) ≡ true) where
-    pass_stops : full j c n ≡ true → pass_loaded s ≡ record { answer = passed.Refused (refusal 14 0); state = s }
+    pass_stops : full j c n ≡ true → pass_loaded s ≡ record { answer = Err (refusal why.Unsound 0); state = s }
     unfolding changing
     pass_stops x = changes d ∙ rw (exceeds_here n p q, x)
 
     pass_goes : full j c n ≡ false → j.stage ≡ 1
-        → pass_loaded s ≡ record { answer = passed.Changed; state = standing (since j (onwards j c)) (onwards j c) }
+        → pass_loaded s ≡ record { answer = (Ok Changed); state = standing (since j (onwards j c)) (onwards j c) }
     unfolding changing
     pass_goes x z = changes d ∙ rw (exceeds_here n p q, x, onward_here z)
 

@@ -7,9 +7,9 @@ ghost use Rattle.job.specs.Core.{at};
 use history::Job;
 
 // The present image: the first width × height bytes of the area that holds it.
-pub(crate) fn image<'a>(job: Job, first: &'a [u8], second: &'a [u8]) -> &'a [u8]
-    requires { (pixels job ≤ length first.now) × (pixels job ≤ length second.now) }
-    ensures { result.now ≡ Rattle.history.specs.State.image (at job first.now second.now) }
+pub(crate) fn image<'a>(job: &Job, first: &'a [u8], second: &'a [u8]) -> &'a [u8]
+    requires { (pixels job.now ≤ length first.now) × (pixels job.now ≤ length second.now) }
+    ensures { result.now ≡ Rattle.history.specs.State.image (at job.now first.now second.now) }
 {
     let count = job.width * job.height;
     if job.passes % 2 == 0 {

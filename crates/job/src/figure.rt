@@ -1,5 +1,5 @@
 // The figures of a job (01, The job).
-ghost use Rattle.std.specs.Prelude.{true, ◌≡◌, ◌+◌, ◌≤◌, ◌<◌, leb, length, take, drop};
+ghost use Rattle.std.specs.Prelude.{true, ◌≡◌, ◌+◌, ◌≤◌, ◌<◌, leb, length};
 ghost use Rattle.std.proofs.Math.IntN.{sub_ℕ};
 ghost use Rattle.operator.specs.Image;
 ghost use Rattle.history.specs.View;
@@ -33,25 +33,23 @@ pub(crate) fn black(bytes: &[u8]) -> usize
     requires { all (λ v. leb v 1) bytes.now ≡ true }
     ensures { result ≡ Image.black bytes.now }
 {
+    let blocks = bytes.chunks_exact(BLOCK);
+    let rest = blocks.remainder();
     let mut ones: usize = 0;
-    let mut from = 0;
-    while BLOCK <= bytes.len() - from {
-        ones += black_in(bytes, from, BLOCK) as usize;
-        from += BLOCK;
+    for block in blocks {
+        ones += black_in(block) as usize;
     }
-    ones + black_in(bytes, from, bytes.len() - from) as usize
+    ones + black_in(rest) as usize
 }
 
-// How many of the `count` pixels from `from` are 1. The sum is a byte, so that many bytes are added at once.
-fn black_in(bytes: &[u8], from: usize, count: usize) -> u8
-    requires { (from + count ≤ length bytes.now) × (count < 256) × (all (λ v. leb v 1) bytes.now ≡ true) }
-    ensures { result ≡ Image.black (take count (drop from bytes.now)) }
+// The same of few pixels. The sum is a byte, so that many bytes are added at once.
+fn black_in(bytes: &[u8]) -> u8
+    requires { (length bytes.now < 256) × (all (λ v. leb v 1) bytes.now ≡ true) }
+    ensures { result ≡ Image.black bytes.now }
 {
     let mut ones: u8 = 0;
-    let mut k = 0;
-    while k < count {
-        ones = ones + bytes[from + k];
-        k += 1;
+    for byte in bytes {
+        ones += *byte;
     }
     ones
 }

@@ -10,9 +10,9 @@ ghost use Rattle.seq.specs.Lists.{any, all, sum_of};
 ghost use Rattle.seq.specs.Tab.{tab};
 
 use history::Job;
-use image::ImageRead;
+use image::size::Size;
 use image::strip::{MAX_PARTS, PartCounts, Strip};
-use verdict::Verdict;
+use verdict::Refusal;
 
 pub(crate) fn none() -> PartCounts
     ensures { result ≡ no_counts }
@@ -24,12 +24,12 @@ pub(crate) fn none() -> PartCounts
 }
 
 // An image as one part; of a refused read nobody looks at it.
-pub(crate) fn whole(read: ImageRead) -> Strip
+pub(crate) fn whole(read: Result<Size, Refusal>) -> Strip
     ensures { result ≡ strip_of (read_width read) (read_height read ∷ []) }
 {
     match read {
-        ImageRead::Size { width, height } => alone(width, height),
-        ImageRead::Refused(_) => alone(0, 0),
+        Ok(Size { width, height }) => alone(width, height),
+        Err(_) => alone(0, 0),
     }
 }
 
@@ -66,13 +66,10 @@ pub(crate) fn of_one(added: usize, removed: usize) -> PartCounts
 pub(crate) fn kept(strip: Strip) -> Strip
     ensures { result ≡ Rattle.image.specs.Strip.kept strip }
 {
-    let parts = strip.parts;
-    let widths = strip.widths;
-    let heights = strip.heights;
     Strip {
-        parts,
-        widths: front(&widths, parts),
-        heights: front(&heights, parts),
+        parts: strip.parts,
+        widths: front(&strip.widths, strip.parts),
+        heights: front(&strip.heights, strip.parts),
     }
 }
 
@@ -99,13 +96,9 @@ pub(crate) fn summed(counts: PartCounts, more: PartCounts) -> PartCounts
     requires { Fit counts more }
     ensures { result ≡ Parts.summed counts more }
 {
-    let added = counts.added;
-    let more_added = more.added;
-    let removed = counts.removed;
-    let more_removed = more.removed;
     PartCounts {
-        added: sums(&added, &more_added),
-        removed: sums(&removed, &more_removed),
+        added: sums(&counts.added, &more.added),
+        removed: sums(&counts.removed, &more.removed),
     }
 }
 
@@ -121,55 +114,45 @@ fn sums(numbers: &[usize; MAX_PARTS], more: &[usize; MAX_PARTS]) -> [usize; MAX_
 }
 
 // What 14 asks of the parts at stage 1 and 2.
-pub(crate) fn are_bad(job: Job) -> bool
-    ensures { result ≡ bad_parts job }
+pub(crate) fn are_bad(job: &Job) -> bool
+    ensures { result ≡ bad_parts job.now }
 {
-    let strip = job.strip;
-    if let Verdict::Refused(_) = image::strip::check_shape(strip) {
+    if let Err(_) = image::strip::check_shape(job.strip) {
         return true;
     }
     if !is_size(job) {
         return true;
     }
-    if any_past(job, strip.parts) {
+    if any_past(job, job.strip.parts) {
         return true;
     }
     !are_counts(job)
 }
 
 // Width and height are those of the parts together.
-fn is_size(job: Job) -> bool
-    requires { job.strip.parts ≤ max_parts }
-    ensures { result ≡ (eqb job.width (strip_width job.strip) && eqb job.height (strip_height job.strip)) }
+fn is_size(job: &Job) -> bool
+    requires { job.now.strip.parts ≤ max_parts }
+    ensures { result ≡ (eqb job.now.width (strip_width job.now.strip) && eqb job.now.height (strip_height job.now.strip)) }
 {
-    let strip = job.strip;
-    let heights = strip.heights;
-    job.width == strip.widths[0] && sums_to(&heights[..strip.parts], job.height)
+    job.width == job.strip.widths[0] && sums_to(&job.strip.heights[..job.strip.parts], job.height)
 }
 
 // The counts of the parts sum to the record's.
-fn are_counts(job: Job) -> bool
-    ensures { result ≡ (sums_to job.added job.counts.added && sums_to job.removed job.counts.removed) }
+fn are_counts(job: &Job) -> bool
+    ensures { result ≡ (sums_to job.now.added job.now.counts.added && sums_to job.now.removed job.now.counts.removed) }
 {
-    let counts = job.counts;
-    let added = counts.added;
-    let removed = counts.removed;
-    sums_to(&added, job.added) && sums_to(&removed, job.removed)
+    sums_to(&job.counts.added, job.added) && sums_to(&job.counts.removed, job.removed)
 }
 
 // A place from `parts` on is not zero, in a field that has one for each part.
-pub(crate) fn any_past(job: Job, parts: usize) -> bool
+pub(crate) fn any_past(job: &Job, parts: usize) -> bool
     requires { parts ≤ max_parts }
-    ensures { result ≡ any (set_from parts) (part_fields job) }
+    ensures { result ≡ any (set_from parts) (part_fields job.now) }
 {
-    let strip = job.strip;
-    let counts = job.counts;
-    let widths = strip.widths;
-    let heights = strip.heights;
-    let added = counts.added;
-    let removed = counts.removed;
-    any_from(&widths, parts)
-        || (any_from(&heights, parts) || (any_from(&added, parts) || any_from(&removed, parts)))
+    any_from(&job.strip.widths, parts)
+        || any_from(&job.strip.heights, parts)
+        || any_from(&job.counts.added, parts)
+        || any_from(&job.counts.removed, parts)
 }
 
 // A number from place `from` on is not zero.
@@ -183,13 +166,7 @@ fn any_from(numbers: &[usize], from: usize) -> bool
 fn any_set(numbers: &[usize]) -> bool
     ensures { result ≡ not (all (eqb 0) numbers.now) }
 {
-    let mut seen: usize = 0;
-    let mut i = 0;
-    while i < numbers.len() {
-        seen = seen | numbers[i];
-        i += 1;
-    }
-    seen != 0
+    numbers.iter().any(|number| *number != 0)
 }
 
 // The numbers sum to a total. What is left of it is counted down, so that nothing wraps.
@@ -197,13 +174,11 @@ fn sums_to(numbers: &[usize], total: usize) -> bool
     ensures { result ≡ eqb total (sum_of numbers.now) }
 {
     let mut left = total;
-    let mut i = 0;
-    while i < numbers.len() {
-        if left < numbers[i] {
+    for number in numbers {
+        if left < *number {
             return false;
         }
-        left -= numbers[i];
-        i += 1;
+        left -= *number;
     }
     left == 0
 }

@@ -5,8 +5,9 @@ ghost use Rattle.job.specs.Channels.{opened};
 ghost use Rattle.job.specs.Code.Channels.{opened_with};
 
 use history::{MAX_CHANNELS, Quota};
-use verdict::Verdict;
+use verdict::{Rule, Verdict};
 
+// No Result, since a refused quota comes back too (02, T-10).
 #[derive(Clone, Copy)]
 pub struct Opened {
     pub answer: Verdict,
@@ -18,11 +19,10 @@ pub struct Opened {
 pub fn open(quota: Quota) -> Opened
     ensures { result ≡ opened quota }
 {
-    let channels = quota.channels;
     // A quota of 1 to 4 channels is one that has its last channel.
-    if let Verdict::Refused(refusal) = check(quota, channels) {
+    if let Err(refusal) = check(quota, quota.channels) {
         return Opened {
-            answer: Verdict::Refused(refusal),
+            answer: Err(refusal),
             quota,
         };
     }
@@ -32,7 +32,7 @@ pub fn open(quota: Quota) -> Opened
         let reserve = reserve_at(quota, i);
         if pool < reserve {
             return Opened {
-                answer: verdict::refused(verdict::QUOTA_RANGE, 0),
+                answer: verdict::refused(Rule::QuotaRange, 0),
                 quota,
             };
         }
@@ -47,7 +47,7 @@ fn accepted(quota: Quota, reserves: [usize; MAX_CHANNELS], pool: usize) -> Opene
     ensures { result ≡ opened_with quota reserves pool }
 {
     Opened {
-        answer: Verdict::Accepted,
+        answer: Ok(()),
         quota: Quota {
             channels: quota.channels,
             allowance: quota.allowance,
@@ -63,40 +63,31 @@ fn reserve_at(quota: Quota, i: usize) -> usize
     requires { i < max_channels }
     ensures { result ≡ get_or (kept quota) i 0 }
 {
-    let reserves = quota.reserves;
-    if i < quota.channels { reserves[i] } else { 0 }
+    if i < quota.channels {
+        quota.reserves[i]
+    } else {
+        0
+    }
 }
 
 // 25 where a call is handed a quota of too many channels, or one without this channel.
 pub(crate) fn check(quota: Quota, channel: usize) -> Verdict
     ensures { result ≡ channel_rule quota channel }
 {
-    if MAX_CHANNELS < quota.channels {
-        return verdict::refused(verdict::QUOTA_RANGE, 0);
+    if MAX_CHANNELS < quota.channels || channel < 1 || quota.channels < channel {
+        return verdict::refused(Rule::QuotaRange, 0);
     }
-    if channel < 1 {
-        return verdict::refused(verdict::QUOTA_RANGE, 0);
-    }
-    if quota.channels < channel {
-        return verdict::refused(verdict::QUOTA_RANGE, 0);
-    }
-    Verdict::Accepted
+    Ok(())
 }
 
-// As many passes as the channel has left, and at most `limit`. A sum is taken only where it is below the limit.
+// As many passes as the channel has left, and at most `limit`.
 pub(crate) fn within(quota: Quota, channel: usize, limit: usize) -> usize
     requires { (1 ≤ channel) × (channel ≤ max_channels) }
     ensures { result ≡ min (available quota channel) limit }
 {
-    let left = quota.left;
-    let own = left[channel - 1];
-    if limit <= own {
-        return limit;
-    }
-    if limit - own <= quota.pool {
-        return limit;
-    }
-    own + quota.pool
+    quota.left[channel - 1]
+        .saturating_add(quota.pool)
+        .min(limit)
 }
 
 // Passes are taken from the channel's reserve first, and the others from the pool.
@@ -105,17 +96,8 @@ pub(crate) fn charge(quota: Quota, channel: usize, passes: usize) -> Quota
     ensures { result ≡ charged_for passes quota channel }
 {
     let mut after = quota;
-    let mut left = quota.left;
-    let own = left[channel - 1];
-    let taken = least(own, passes);
-    left[channel - 1] = own - taken;
-    after.left = left;
-    after.pool = quota.pool - (passes - taken);
+    let taken = after.left[channel - 1].min(passes);
+    after.left[channel - 1] -= taken;
+    after.pool -= passes - taken;
     after
-}
-
-fn least(a: usize, b: usize) -> usize
-    ensures { result ≡ min a b }
-{
-    if a < b { a } else { b }
 }

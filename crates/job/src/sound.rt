@@ -6,8 +6,9 @@ ghost use Rattle.seq.specs.Lists.{any, all};
 
 use crate::{area, parts};
 use history::Job;
-use verdict::Verdict;
+use verdict::{Rule, Verdict};
 
+// The stages are numbers, since the C interface has the record as it is.
 pub(crate) const EMPTY: u8 = 0;
 
 pub(crate) const LOADED: u8 = 1;
@@ -15,21 +16,21 @@ pub(crate) const LOADED: u8 = 1;
 pub(crate) const STABLE: u8 = 2;
 
 // What pass, run, view and figures begin with: 14, 16.
-pub(crate) fn ready<'a>(job: Job, first: &'a [u8], second: &'a [u8]) -> Verdict
-    ensures { result ≡ ready_verdict (at job first.now second.now) }
+pub(crate) fn ready(job: &Job, first: &[u8], second: &[u8]) -> Verdict
+    ensures { result ≡ ready_verdict (at job.now first.now second.now) }
 {
     if is_unsound(job, first, second) {
-        return verdict::refused(verdict::UNSOUND, 0);
+        return verdict::refused(Rule::Unsound, 0);
     }
     if job.stage == EMPTY {
-        return verdict::refused(verdict::NOTHING_LOADED, 0);
+        return verdict::refused(Rule::NothingLoaded, 0);
     }
-    Verdict::Accepted
+    Ok(())
 }
 
 // 14, without its pass clause.
-pub(crate) fn is_unsound<'a>(job: Job, first: &'a [u8], second: &'a [u8]) -> bool
-    ensures { result ≡ Rattle.history.specs.State.unsound (at job first.now second.now) }
+pub(crate) fn is_unsound(job: &Job, first: &[u8], second: &[u8]) -> bool
+    ensures { result ≡ Rattle.history.specs.State.unsound (at job.now first.now second.now) }
 {
     let stage = job.stage;
     if STABLE < stage {
@@ -42,14 +43,13 @@ pub(crate) fn is_unsound<'a>(job: Job, first: &'a [u8], second: &'a [u8]) -> boo
 }
 
 // What 14 asks at stage 1 and 2.
-fn is_inconsistent<'a>(job: Job, first: &'a [u8], second: &'a [u8]) -> bool
-    ensures { result ≡ Rattle.history.specs.State.inconsistent (at job first.now second.now) }
+fn is_inconsistent(job: &Job, first: &[u8], second: &[u8]) -> bool
+    ensures { result ≡ Rattle.history.specs.State.inconsistent (at job.now first.now second.now) }
 {
     if parts::are_bad(job) {
         return true;
     }
-    let table = job.table;
-    if let Verdict::Refused(_) = table::check(table) {
+    if let Err(_) = table::check(job.table) {
         return true;
     }
     let pixels = job.width * job.height;
@@ -69,35 +69,28 @@ fn is_inconsistent<'a>(job: Job, first: &'a [u8], second: &'a [u8]) -> bool
 }
 
 // Stage 0 with a nonzero field. The join of the numbers is 0 exactly when each of them is.
-fn is_nonzero(job: Job) -> bool
-    ensures { result ≡ Rattle.history.specs.State.nonzero job }
+fn is_nonzero(job: &Job) -> bool
+    ensures { result ≡ Rattle.history.specs.State.nonzero job.now }
 {
-    let table = job.table;
-    let strip = job.strip;
     let sizes = job.width | job.height | job.passes;
-    let counts = job.added | job.removed | table.count | table.ranks | strip.parts;
+    let counts = job.added | job.removed | job.table.count | job.table.ranks | job.strip.parts;
     if sizes | counts != 0 {
         return true;
     }
-    if any_nonzero(&table.persistents) {
+    if any_set(&job.table.persistents) {
         return true;
     }
-    if any_nonzero(&table.elements) {
+    if any_set(&job.table.elements) {
         return true;
     }
     parts::any_past(job, 0)
 }
 
-fn any_nonzero(masks: &[u32]) -> bool
+// Beside `parts::any_set`, since masks are of another type: a generic one would need a trait with a zero, for one line.
+fn any_set(masks: &[u32]) -> bool
     ensures { result ≡ not (all (eqb 0) masks.now) }
 {
-    let mut seen: u32 = 0;
-    let mut i = 0;
-    while i < masks.len() {
-        seen = seen | masks[i];
-        i += 1;
-    }
-    seen != 0
+    masks.iter().any(|mask| *mask != 0)
 }
 
 // A byte is above 1. Without a way out of the loop, so that many bytes are joined at once.
@@ -105,10 +98,8 @@ fn any_above_one(bytes: &[u8]) -> bool
     ensures { result ≡ any (ltb 1) bytes.now }
 {
     let mut seen: u8 = 0;
-    let mut i = 0;
-    while i < bytes.len() {
-        seen = seen | bytes[i];
-        i += 1;
+    for byte in bytes {
+        seen |= *byte;
     }
     1 < seen
 }

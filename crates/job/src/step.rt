@@ -1,15 +1,15 @@
-// Passes at stage 1 (01, The job), on a single image or on a strip. The filter makes them, and only where 14's pass clause does not hold.
+// Passes on a job (01, The job), on a single image or on a strip. The filter makes them, and only where 14's pass clause does not hold.
 ghost use Rattle.std.specs.Prelude.{◌≡◌, ◌+◌, ◌≤◌};
-ghost use Rattle.history.specs.Sound.{Ready};
 ghost use Rattle.history.specs.State.{pixels};
 ghost use Rattle.image.specs.Strip.{max_strip};
 ghost use Rattle.job.specs.Core.{at};
-ghost use Rattle.job.specs.Code.Passes.{made, allowed, done_on_one, concluded, Fit, Made};
+ghost use Rattle.job.specs.Code.Passes.{made, at_most, allowed, answer_of, done_on_one, after_done, Fit, Made, Places, Running};
 
-use crate::{Stepped, cross, parts, sound};
+use crate::{cross, parts, sound};
 use filter::{Budget, End, Repeated, apply};
-use history::{Job, Passed};
+use history::{Effect, Job, Passed};
 use image::strip::PartCounts;
+use verdict::Rule;
 
 // What the filter did: the passes that changed pixels, the pixels in all and of each part, and why it ended.
 #[derive(Clone, Copy)]
@@ -21,33 +21,47 @@ pub(crate) struct Done {
     pub end: End,
 }
 
-// At most `limit` passes that change pixels.
-pub(crate) fn advance(job: Job, limit: usize, first: &mut [u8], second: &mut [u8]) -> Stepped
-    requires { Ready (at job first.old second.old) × (job.stage ≡ 2 → ⊥) }
-    ensures { Made (made limit (at job first.old second.old)) result first.new second.new }
+// More passes than 14's pass clause lets a sound record have.
+pub(crate) fn most(job: &Job) -> usize
+    ensures { pixels job.now ≤ max_strip → result ≡ pixels job.now + 1 }
 {
-    let strip = job.strip;
-    if strip.parts == 1 {
+    job.width.saturating_mul(job.height).saturating_add(1)
+}
+
+// 14, 16; then at stage 2 nothing, and at stage 1 at most `limit` passes that change pixels. The record is checked once.
+pub(crate) fn passes(job: &mut Job, limit: usize, first: &mut [u8], second: &mut [u8]) -> Passed
+    ensures { Made (at_most limit (at job.old first.old second.old)) result job.new first.new second.new }
+{
+    sound::ready(job, first, second)?;
+    if job.stage == sound::STABLE {
+        return Ok(Effect::Stable);
+    }
+    advance(job, limit, first, second)
+}
+
+// At stage 1.
+pub(crate) fn advance(job: &mut Job, limit: usize, first: &mut [u8], second: &mut [u8]) -> Passed
+    requires { Running (at job.old first.old second.old) }
+    ensures { Made (made limit (at job.old first.old second.old)) result job.new first.new second.new }
+{
+    if job.strip.parts == 1 {
         repeat(job, limit, first, second)
     } else {
         cross::advance(job, limit, first, second)
     }
 }
 
-// A single image: all of them at once, from the area that holds it.
-fn repeat(job: Job, limit: usize, first: &mut [u8], second: &mut [u8]) -> Stepped
-    requires { Ready (at job first.old second.old) × (job.stage ≡ 2 → ⊥) × (job.strip.parts ≡ 1) }
-    ensures { Made (made limit (at job first.old second.old)) result first.new second.new }
+// A single image: all of them at once, from the area that holds it. The filter refuses none, since a sound record's size and areas fit.
+fn repeat(job: &mut Job, limit: usize, first: &mut [u8], second: &mut [u8]) -> Passed
+    requires { Running (at job.old first.old second.old) × (job.old.strip.parts ≡ 1) }
+    ensures { Made (made limit (at job.old first.old second.old)) result job.new first.new second.new }
 {
-    let table = job.table;
-    let width = job.width;
-    let height = job.height;
     let budget = allow(job, limit);
     if job.passes % 2 == 0 {
-        let repeated = apply::repeat(table, width, height, budget, first, second);
+        let repeated = apply::repeat(job.table, job.width, job.height, budget, first, second)?;
         conclude(job, of_one(repeated))
     } else {
-        let repeated = apply::repeat(table, width, height, budget, second, first);
+        let repeated = apply::repeat(job.table, job.width, job.height, budget, second, first)?;
         conclude(job, of_one(repeated))
     }
 }
@@ -67,9 +81,9 @@ fn of_one(repeated: Repeated) -> Done
 }
 
 // What 14's pass clause leaves: passes, and pixels that they change, up to the pixels of the image.
-fn allow(job: Job, limit: usize) -> Budget
-    requires { (pixels job ≤ max_strip) × (job.passes ≤ pixels job) × (job.added + job.removed ≤ pixels job) }
-    ensures { result ≡ allowed job limit }
+fn allow(job: &Job, limit: usize) -> Budget
+    requires { (pixels job.now ≤ max_strip) × (job.now.passes ≤ pixels job.now) × (job.now.added + job.now.removed ≤ pixels job.now) }
+    ensures { result ≡ allowed job.now limit }
 {
     let pixels = job.width * job.height;
     Budget {
@@ -80,37 +94,21 @@ fn allow(job: Job, limit: usize) -> Budget
 }
 
 // The record after the filter's passes: only rest alters the stage.
-pub(crate) fn conclude(job: Job, done: Done) -> Stepped
-    requires { (job.passes + done.passes ≤ max_strip) × (job.added + done.added ≤ max_strip) × (job.removed + done.removed ≤ max_strip)
-        × Fit job.counts done.parts }
-    ensures { result ≡ concluded job done }
+pub(crate) fn conclude(job: &mut Job, done: Done) -> Passed
+    requires { (job.old.passes + done.passes ≤ max_strip) × (job.old.added + done.added ≤ max_strip) × (job.old.removed + done.removed ≤ max_strip)
+        × Fit job.old.counts done.parts }
+    ensures { (result ≡ answer_of done.end) × (job.new ≡ after_done job.old done) × Places job.old }
 {
-    let mut after = job;
-    after.passes = job.passes + done.passes;
-    after.added = job.added + done.added;
-    after.removed = job.removed + done.removed;
-    after.counts = parts::summed(job.counts, done.parts);
-    let end = done.end;
-    match end {
+    job.passes += done.passes;
+    job.added += done.added;
+    job.removed += done.removed;
+    job.counts = parts::summed(job.counts, done.parts);
+    match done.end {
         End::Stable => {
-            after.stage = sound::STABLE;
-            Stepped {
-                answer: Passed::Stable,
-                job: after,
-            }
+            job.stage = sound::STABLE;
+            Ok(Effect::Stable)
         }
-        End::Limit => Stepped {
-            answer: Passed::Changed,
-            job: after,
-        },
-        End::Full => Stepped {
-            answer: Passed::Refused(verdict::refusal_of(verdict::UNSOUND, 0)),
-            job: after,
-        },
-        // Never so: a sound record's size and areas fit.
-        End::Refused(refusal) => Stepped {
-            answer: Passed::Refused(refusal),
-            job: after,
-        },
+        End::Limit => Ok(Effect::Changed),
+        End::Full => verdict::refused(Rule::Unsound, 0),
     }
 }

@@ -4,6 +4,7 @@
 --     sequence_alone                 two sequences of one seed are equal
 --     all_numbers                    the claim
 -- Assumes nothing.
+use Rattle.std.specs.Prelude.{Ok}
 use Rattle.std.proofs.Common.{◌≡◌, ℕ, zero, suc, ◌+◌, ◌-◌, ◌*◌, ◌%◌, ◌^◌, ◌<◌, ◌≤◌, false, ltb, leb, get_or, sym, refl, ap, ◌∙◌, ap₂, ⊎_elim, add-one, arith, below_none, below_more, ltb-false, ltb-true, le-ltb, lt-ltb}
 use Rattle.image.proofs.PixelsOf.{good_pixels}
 use Rattle.image.specs.File.{pixel_verdict}
@@ -15,7 +16,6 @@ use Rattle.noise.proofs.Lagged.{lagged_first, lagged_moved, lagged_last, each_pl
 use Rattle.seq.proofs.Lists.{either, one_le}
 use Rattle.seq.proofs.Tab.{length_tab, get_d_tab, tab_ext}
 use Rattle.seq.specs.Tab.{tab}
-use Rattle.verdict.specs.declared.Verdict.TheVariants.{Accepted}
 
 module _ (seed : ℕ) where
   pub number_seeded : (k : ℕ) → k < long_lag → number seed k ≡ seeded seed k
@@ -88,7 +88,7 @@ module _ (seed : ℕ) where
           let here : i ≡ long_lag + i - long_lag = omega arith in
           ap (drawn seed) here ∙ sym (number_drawn (long_lag + i) (omega arith)) ∙ sequence_alone number_sequence p (long_lag + i)
 
-  noise_writable : (w h : ℕ) → bad_size w h ≡ false → pixel_verdict w h (noise seed w h) ≡ Accepted
+  noise_writable : (w h : ℕ) → bad_size w h ≡ false → pixel_verdict w h (noise seed w h) ≡ Ok tt
   unfolding noise
   noise_writable w h e = good_pixels w h (tab (noise_pixel seed) (w * h)) (record {
     size = e;

@@ -8,9 +8,7 @@ use Rattle.std.specs.Prelude.{◌≡◌, ℕ, List, [], ◌∷◌, map, replicat
 use Rattle.noise.specs.Noise.{noise, noise_verdict, noise_area}
 use Rattle.noise.specs.Sequence.{number}
 use Rattle.seq.specs.Lists.{join}
-use Rattle.verdict.specs.declared.Verdict.{Verdict}
-use Rattle.verdict.specs.declared.Verdict.TheVariants.{Accepted, Refused}
-use Rattle.verdict.specs.Rules.{refusal}
+use Rattle.verdict.specs.Answers.{accepted, refused, Said, said}
 
 abbrev pub numbers : List (ℕ × ℕ × ℕ)
 numbers =
@@ -34,30 +32,27 @@ sheets =
     ∷ (123456789, 8, 3, (0 ∷ 0 ∷ 1 ∷ 1 ∷ 0 ∷ 0 ∷ 1 ∷ 1 ∷ []) ∷ (0 ∷ 0 ∷ 1 ∷ 1 ∷ 0 ∷ 0 ∷ 1 ∷ 1 ∷ []) ∷ (1 ∷ 0 ∷ 0 ∷ 1 ∷ 1 ∷ 0 ∷ 0 ∷ 1 ∷ []) ∷ [])
     ∷ []
 
-abbrev refused : ℕ → Verdict
-refused n = Refused (refusal n 0)
-
-abbrev pub areas : List (ℕ × ℕ × ℕ × Verdict)
+abbrev pub areas : List (ℕ × ℕ × ℕ × Said)
 areas =
     -- sizes, before the area
-    (0, 1, 1, refused 10)
-    ∷ (1, 0, 1, refused 10)
-    ∷ (0, 0, 0, refused 10)
-    ∷ (257, 1, 257, refused 10)
-    ∷ (256, 257, 65792, refused 10)
-    ∷ (257, 257, 0, refused 10)
+    (0, 1, 1, refused 10 0)
+    ∷ (1, 0, 1, refused 10 0)
+    ∷ (0, 0, 0, refused 10 0)
+    ∷ (257, 1, 257, refused 10 0)
+    ∷ (256, 257, 65792, refused 10 0)
+    ∷ (257, 257, 0, refused 10 0)
     -- the area
-    ∷ (1, 1, 0, refused 13)
-    ∷ (4, 4, 15, refused 13)
-    ∷ (4, 4, 16, Accepted)
-    ∷ (256, 256, 65535, refused 13)
-    ∷ (256, 256, 65536, Accepted)
+    ∷ (1, 1, 0, refused 13 0)
+    ∷ (4, 4, 15, refused 13 0)
+    ∷ (4, 4, 16, accepted)
+    ∷ (256, 256, 65535, refused 13 0)
+    ∷ (256, 256, 65536, accepted)
     ∷ []
 
 pub record Cases : Type 0 where
   pub numbers_met : map (λ c. number c.0 c.1) numbers ≡ map (λ c. c.2) numbers
   pub sheets_met : map (λ c. noise c.0 c.1 c.2) sheets ≡ map (λ c. join c.3) sheets
-  pub areas_met : map (λ c. noise_verdict c.0 c.1 c.2) areas ≡ map (λ c. c.3) areas
+  pub areas_met : map (λ c. said (noise_verdict c.0 c.1 c.2)) areas ≡ map (λ c. c.3) areas
   -- a byte past the sheet stays, and a refused area
   pub past_met : noise_area 2147483648 2 2 (replicate 5 9) ≡ 0 ∷ 0 ∷ 1 ∷ 1 ∷ 9 ∷ []
   pub short_met : noise_area 2147483648 2 2 (replicate 3 9) ≡ replicate 3 9

@@ -12,9 +12,9 @@ use Rattle.image.specs.Size.{bad_size}
 use Rattle.noise.specs.Generator.{drawn}
 use Rattle.seq.specs.Lists.{one}
 use Rattle.seq.specs.Tab.{tab}
-use Rattle.verdict.specs.declared.Verdict.{Verdict}
-use Rattle.verdict.specs.Rules.{refuse_if, judge}
+use Rattle.verdict.specs.Rules.{refuse_if, judge, Verdict}
 use Rattle.verdict.specs.Writer.{output_of}
+use Rattle.verdict.specs.declared.Rule.TheVariants as why
 
 abbrev pub half : ℕ
 half = 2147483648
@@ -29,7 +29,7 @@ unfoldable pub noise : ℕ → ℕ → ℕ → List ℕ
 noise seed w h = tab (noise_pixel seed) (w * h)
 
 unfoldable pub noise_verdict : ℕ → ℕ → ℕ → Verdict
-noise_verdict w h n = judge (refuse_if (bad_size w h) 10 0 ∷ area_rule w h n ∷ [])
+noise_verdict w h n = judge (refuse_if (bad_size w h) why.SizeRange 0 ∷ area_rule w h n ∷ [])
 
 unfoldable pub noise_area : ℕ → ℕ → ℕ → List ℕ → List ℕ
 noise_area seed w h area = output_of (noise_verdict w h (length area)) (noise seed w h) area

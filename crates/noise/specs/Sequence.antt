@@ -3,13 +3,12 @@
 --     Sequence seed s    s 0, s 1, .. are numbers as 02 says of this seed
 --     Numbers seed       there is one such sequence and no other; its numbers are 32 bits, and the image is made of it
 -- Assumes nothing.
-use Rattle.std.specs.Prelude.{◌≡◌, ℕ, suc, ◌+◌, ◌-◌, ◌*◌, ◌%◌, ◌^◌, ◌<◌, ◌≤◌, false, cond, nat_lt}
+use Rattle.std.specs.Prelude.{◌≡◌, ℕ, suc, ◌+◌, ◌-◌, ◌*◌, ◌%◌, ◌^◌, ◌<◌, ◌≤◌, false, cond, nat_lt, Ok}
 use Rattle.image.specs.File.{pixel_verdict}
 use Rattle.image.specs.Size.{bad_size}
 use Rattle.noise.specs.Generator.{long_lag, short_lag, increment, seeded, drawn}
 use Rattle.noise.specs.Noise.{blackness, noise}
 use Rattle.seq.specs.Tab.{tab}
-use Rattle.verdict.specs.declared.Verdict.TheVariants.{Accepted}
 
 abbrev pub number : ℕ → ℕ → ℕ
 number seed k = cond (nat_lt k long_lag) (seeded seed k) (drawn seed (k - long_lag))
@@ -25,4 +24,4 @@ pub record Numbers (seed : ℕ) : Type 0 where
   pub bits : seed < 2 ^ 32 → (k : ℕ) → number seed k < 2 ^ 32
   -- the first 55 numbers are not used: pixel i takes the next
   pub pixels : (s : ℕ → ℕ) → Sequence seed s → (w h : ℕ) → noise seed w h ≡ tab (λ i. blackness (s (long_lag + i))) (w * h)
-  pub writable : (w h : ℕ) → bad_size w h ≡ false → pixel_verdict w h (noise seed w h) ≡ Accepted
+  pub writable : (w h : ℕ) → bad_size w h ≡ false → pixel_verdict w h (noise seed w h) ≡ Ok tt

@@ -15,11 +15,9 @@ pub(crate) fn seeds(seed: u32) -> [u32; LONG_LAG]
 {
     let mut numbers = [0u32; LONG_LAG];
     let mut next = seed;
-    let mut k = 0;
-    while k < LONG_LAG {
-        numbers[k] = next;
-        next = std::num::wrapping_add_u32(next, INCREMENT);
-        k += 1;
+    for number in numbers.iter_mut() {
+        *number = next;
+        next = next.wrapping_add(INCREMENT);
     }
     numbers
 }

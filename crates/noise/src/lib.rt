@@ -3,13 +3,12 @@
 
 mod generator;
 
-ghost use Rattle.std.specs.Prelude.{◌≡◌, ◌≤◌, length};
+ghost use Rattle.std.specs.Prelude.{◌≡◌, length};
 ghost use Rattle.noise.specs.Noise.{blackness, noise_pixel, noise_verdict, noise_area};
 ghost use Rattle.seq.specs.Tab.{tab};
-ghost use Rattle.verdict.specs.Writer.{over};
 
 use crate::generator::{LONG_LAG, SHORT_LAG};
-use verdict::Verdict;
+use verdict::{Rule, Verdict};
 
 // The least number that is black.
 const HALF: u32 = 2147483648;
@@ -20,37 +19,34 @@ pub fn fill(seed: u32, width: usize, height: usize, area: &mut [u8]) -> Verdict
         × (area.new ≡ noise_area seed width height area.old) }
 {
     if image::size::is_bad(width, height) {
-        return verdict::refused(verdict::SIZE_RANGE, 0);
+        return verdict::refused(Rule::SizeRange, 0);
     }
     let count = width * height;
     if area.len() < count {
-        return verdict::refused(verdict::AREA_SHORT, 0);
+        return verdict::refused(Rule::AreaShort, 0);
     }
-    draw(seed, count, area);
-    Verdict::Accepted
+    draw(seed, &mut area[..count]);
+    Ok(())
 }
 
 // The last 55 numbers stand in a ring. The next one takes the place of the oldest, 55 places earlier; the recent one is 24 places earlier.
-fn draw(seed: u32, count: usize, area: &mut [u8])
-    requires { count ≤ length area.old }
-    ensures { area.new ≡ over (tab (noise_pixel seed) count) area.old }
+fn draw(seed: u32, image: &mut [u8])
+    ensures { image.new ≡ tab (noise_pixel seed) (length image.old) }
 {
     let mut ring = generator::seeds(seed);
     let mut oldest = 0;
     let mut recent = LONG_LAG - SHORT_LAG;
-    let mut i = 0;
-    while i < count {
-        let number = std::num::wrapping_add_u32(ring[recent], ring[oldest]);
+    for pixel in image.iter_mut() {
+        let number = ring[recent].wrapping_add(ring[oldest]);
         ring[oldest] = number;
-        area[i] = black(number);
+        *pixel = black(number);
         oldest = generator::after(oldest);
         recent = generator::after(recent);
-        i += 1;
     }
 }
 
 fn black(number: u32) -> u8
     ensures { result ≡ blackness number }
 {
-    if HALF <= number { 1 } else { 0 }
+    u8::from(HALF <= number)
 }

@@ -10,6 +10,7 @@
 --     sites, shown, total_sum, changes, passing     the changes of n passes, and the passes that change a pixel
 --     all_counts                          the theorem
 -- Assumes nothing.
+use Rattle.std.specs.Prelude.{Ok}
 use mathlib.Core.Bool.{Bool, true, false, not, ◌&&◌}
 use mathlib.Core.List.{List, Memᴰ}
 use mathlib.Core.Path.{◌≡◌, refl, sym, ap, ◌∙◌}
@@ -33,7 +34,6 @@ use Rattle.seq.proofs.Members.{any_false, count_tab}
 use Rattle.seq.proofs.Tab.{tab_get_d, up_to_intro, up_to_elim, length_up_to}
 use Rattle.table.specs.declared.Table.{Table}
 use Rattle.table.specs.Record.{record_verdict}
-use Rattle.verdict.specs.declared.Verdict.TheVariants.{Accepted}
 use Rattle.operator.proofs.Image.{black_of, Shows, image_shows, differs_shows}
 use Rattle.operator.proofs.Operator.{passes_shows, pass_image, passes_image}
 use Rattle.operator.proofs.System.{system, lawful}
@@ -116,7 +116,7 @@ module _ {w h : ℕ} {a b : List ℕ} (m : IsImage w h a) (n : IsImage w h b) wh
       changed_sum (image_shows m) (image_shows n)
       ∙ count_none _ (up_to (w * h)) (λ i k. ap not (same_intro (ap (λ l. black_of l i) e)))
 
-module _ (t : Table) (w h : ℕ) (img : List ℕ) (ok : record_verdict t ≡ Accepted) (m : IsImage w h img) where
+module _ (t : Table) (w h : ℕ) (img : List ℕ) (ok : record_verdict t ≡ Ok tt) (m : IsImage w h img) where
   -- what n passes show
   sites : ℕ → Image ℕ
   sites n = operator.iterate (system t w h) n (black_of img)

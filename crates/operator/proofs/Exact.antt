@@ -1,6 +1,7 @@
 -- Six rows and columns are needed.
 --     exact     with the pixels two to the left and two to the right, and five in a row, a pass sees six columns far
 -- Assumes nothing.
+use Rattle.std.specs.Prelude.{Ok}
 use mathlib.Core.List.{List, ◌∷◌}
 use mathlib.Core.Logic.{⊎_elim}
 use mathlib.Core.Path.{◌≡◌, refl}
@@ -17,9 +18,8 @@ use Rattle.seq.specs.Bits.{bit, bits_of}
 use Rattle.seq.specs.Tab.{up_to}
 use Rattle.table.specs.Mask.{positions, valid_mask, meets, sum_inside, sum, partner, unpartnered, persistent_for}
 use Rattle.table.specs.Record.{masks, persistents, bad_count, bad_ranks, not_rising, bad_mask, bad_element, bad_place, bad_persistent, disjoint_from, missed_by, missed_at, persistent_place, record_verdict}
-use Rattle.verdict.specs.declared.Verdict.TheVariants.{Accepted}
 
-accepted : record_verdict long_row ≡ Accepted
+accepted : record_verdict long_row ≡ Ok tt
 unfolding record_verdict masks persistents bad_count bad_ranks bad_place bad_element not_rising bad_mask bad_persistent disjoint_from missed_by missed_at persistent_place
     positions valid_mask meets sum_inside sum partner unpartnered persistent_for bit bits_of up_to
 accepted = refl

@@ -3,6 +3,7 @@
 --     opened_pixel          an opened pixel's value
 --     opened_kept           it is not held for the other value
 -- Assumes nothing.
+use Rattle.std.specs.Prelude.{Ok}
 use mathlib.Core.Bool.{Bool, true, false, not, true≢false, false≢true}
 use mathlib.Core.List.{List}
 use mathlib.Core.Path.{◌≡◌, sym, ap₂, ◌∙◌, subst}
@@ -18,7 +19,6 @@ use Rattle.seq.proofs.Lists.{not_true_false, any_elim, all_elim, and_right}
 use Rattle.table.specs.declared.Table.{Table}
 use Rattle.table.specs.Mask.{across, down, positions}
 use Rattle.table.specs.Record.{persistents, record_verdict}
-use Rattle.verdict.specs.declared.Verdict.TheVariants.{Accepted}
 use Rattle.operator.proofs.Image.{one_not, value_one, black_of, image_shows}
 use Rattle.operator.proofs.Operator.{opened_shows, held_shows}
 use Rattle.operator.proofs.System.{lawful}
@@ -39,7 +39,7 @@ opened_pixel t w h img v r c o =
     let same = and_right (inside w h r c b b) _ (all_elim _ x m) in
     ap₂ (pixel w img) (omega arith) (omega arith) ∙ eqb-true (pixel w img (placed r (down b) (down b)) (placed c (across b) (across b))) v same
 
-module _ (t : Table) (w h : ℕ) (img : List ℕ) (ok : record_verdict t ≡ Accepted) (m : IsImage w h img) where
+module _ (t : Table) (w h : ℕ) (img : List ℕ) (ok : record_verdict t ≡ Ok tt) (m : IsImage w h img) where
   pub opened_kept : (v r c : ℕ) → v ≤ 1 → r < h → c < w → opened t w h img v r c ≡ true → held t w h img (1 - v) r c ≡ false
   opened_kept v r c l i j = by_value (λ u. opened t w h img u r c ≡ true → held t w h img (1 - u) r c ≡ false) at_value v l
     where

@@ -3,6 +3,7 @@
 --     reached, first   there is one after as many passes as there are pixels, and only one
 --     all_rest         the theorem
 -- Assumes nothing.
+use Rattle.std.specs.Prelude.{Ok}
 use mathlib.Core.List.{List}
 use mathlib.Core.Path.{◌≡◌, refl, sym, ap, ◌∙◌}
 use Prim.Native.Nat.{ℕ, ◌+◌, ◌*◌, ◌≤◌}
@@ -16,7 +17,6 @@ use Rattle.morph.proofs.Rest.{rest}
 use Rattle.seq.proofs.Tab.{length_up_to}
 use Rattle.table.specs.declared.Table.{Table}
 use Rattle.table.specs.Record.{record_verdict}
-use Rattle.verdict.specs.declared.Verdict.TheVariants.{Accepted}
 use Rattle.operator.proofs.Exchange.{exchange_passes}
 use Rattle.operator.proofs.Image.{black_of, image_shows, shows_equal}
 use Rattle.operator.proofs.Order.{order_passes}
@@ -28,7 +28,7 @@ module _ (t : Table) (w h : ℕ) where
   pub passes_stable : (img : List ℕ) (n m : ℕ) → Stable t w h (passes t w h n img) → n ≤ m → passes t w h m img ≡ passes t w h n img
   passes_stable img n m s = le_ind (λ k. passes t w h k img ≡ passes t w h n img) refl (λ k l e. ap (pass t w h) e ∙ s) m
 
-  module _ (ok : record_verdict t ≡ Accepted) (img : List ℕ) (m : IsImage w h img) where
+  module _ (ok : record_verdict t ≡ Ok tt) (img : List ℕ) (m : IsImage w h img) where
     reached : Stable t w h (rested t w h img)
     unfolding rested sites.rested
     reached =

@@ -7,6 +7,7 @@
 --     lawful                   an accepted table gives a lawful system
 --     listed                   the pixels with an element are those of the image
 -- Assumes nothing.
+use Rattle.std.specs.Prelude.{Ok}
 use mathlib.Core.Bool.{cond}
 use mathlib.Core.List.Memᴰ
 use mathlib.Core.List.{List, [], Memᴰ}
@@ -22,7 +23,6 @@ use Rattle.seq.proofs.Lists.{either}
 use Rattle.seq.proofs.Tab.{up_to_intro}
 use Rattle.table.specs.declared.Table.{Table}
 use Rattle.table.specs.Record.{record_verdict}
-use Rattle.verdict.specs.declared.Verdict.TheVariants.{Accepted}
 use Rattle.operator.proofs.Translates.{elements_at, blocks_of, elements_meet}
 use Rattle.operator.proofs.Translates.{Block, block_elim, block_intro, block_contains, block_moved, block_meets}
 
@@ -76,7 +76,7 @@ module _ (t : Table) (w h : ℕ) where
           let (r', c', i', j', e, B') = block_moved B q m in
           rw (e, blocks_at r' i' j') (block_intro B')
 
-  module _ (ok : record_verdict t ≡ Accepted) where
+  module _ (ok : record_verdict t ≡ Ok tt) where
     -- rule 5
     meet : (p : ℕ) (A B : List ℕ) → Memᴰ A ((system t w h).hits p) → Memᴰ B ((system t w h).hits p)
         → (q : ℕ) × Memᴰ q A × Memᴰ q B

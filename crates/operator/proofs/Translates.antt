@@ -12,6 +12,7 @@
 --     row, column, translate_moved, moved, block_moved     it is a block at each of its pixels
 --     block_meets             every element at (r, c) shares a pixel with it
 -- Assumes nothing.
+use Rattle.std.specs.Prelude.{Ok}
 use mathlib.Core.List.Memᴰ
 use mathlib.Core.List.{List, map, Memᴰ}
 use mathlib.Core.Path.{◌≡◌, sym, ap₂, ◌∙◌, subst}
@@ -25,7 +26,6 @@ use Rattle.seq.proofs.Members.{map_ext}
 use Rattle.table.specs.declared.Table.{Table}
 use Rattle.table.specs.Mask.{across, down, positions}
 use Rattle.table.specs.Record.{masks, persistents, record_verdict}
-use Rattle.verdict.specs.declared.Verdict.TheVariants.{Accepted}
 use Rattle.table.proofs.Facts.{accepted_table}
 use Rattle.table.proofs.Masks.{sum_down, sum_across}
 use Rattle.operator.proofs.Placed.{placed_again, fits_again, clamp_placed, Within, inside_elim, inside_intro}
@@ -85,7 +85,7 @@ element_sites t w h r c A m =
     (e, k, λ n x. subst (Memᴰ (site_at w h r c n)) (sym p) (map_intro (site_at w h r c) x))
 
 -- a shared position gives a shared site
-pub elements_meet : (t : Table) (w h r c : ℕ) → record_verdict t ≡ Accepted → (A B : List ℕ)
+pub elements_meet : (t : Table) (w h r c : ℕ) → record_verdict t ≡ Ok tt → (A B : List ℕ)
     → Memᴰ A (elements_at t w h r c) → Memᴰ B (elements_at t w h r c) → (s : ℕ) × Memᴰ s A × Memᴰ s B
 elements_meet t w h r c ok A B m n =
     let (e, k, left) = element_sites t w h r c A m in
@@ -141,7 +141,7 @@ module _ {t : Table} {w h r c : ℕ} {T : List ℕ} (B : Block t w h r c T) wher
       (row b', column b', (B.whole b' n).rows.below, (B.whole b' n).columns.below, e, moved b' n)
 
   -- the partner of b: its site at (r, c) is the translate's pixel for the sum, which is inside, so nothing is clamped
-  pub block_meets : record_verdict t ≡ Accepted → (A : List ℕ) → Memᴰ A (elements_at t w h r c)
+  pub block_meets : record_verdict t ≡ Ok tt → (A : List ℕ) → Memᴰ A (elements_at t w h r c)
       → (s : ℕ) × Memᴰ s A × Memᴰ s T
   unfolding translate
   block_meets ok A m =

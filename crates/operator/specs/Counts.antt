@@ -4,7 +4,7 @@
 --                          the pixels; at most as many passes change a pixel as there are pixels
 --     AllCounts            for every accepted table and image
 -- Assumes nothing.
-use Rattle.std.specs.Prelude.{List, ◌≡◌, ℕ, suc, ◌+◌, ◌*◌, ◌≤◌}
+use Rattle.std.specs.Prelude.{List, ◌≡◌, ℕ, suc, ◌+◌, ◌*◌, ◌≤◌, Ok}
 use Rattle.operator.specs.Image.{IsImage, black, added, removed, differs}
 use Rattle.operator.specs.Pass.{pass, passes}
 use Rattle.morph.specs.Bound.{total}
@@ -12,7 +12,6 @@ use Rattle.seq.specs.Lists.{count}
 use Rattle.seq.specs.Tab.{up_to}
 use Rattle.table.specs.declared.Table.{Table}
 use Rattle.table.specs.Record.{record_verdict}
-use Rattle.verdict.specs.declared.Verdict.TheVariants.{Accepted}
 
 abbrev pub step_added : Table → ℕ → ℕ → List ℕ → ℕ → ℕ
 step_added t w h img i = added (passes t w h i img) (passes t w h (suc i) img)
@@ -27,4 +26,4 @@ pub record Counts (t : Table) (w h : ℕ) (img : List ℕ) : Type 0 where
   pub bound : (n : ℕ) → count (λ i. differs (passes t w h i img) (passes t w h (suc i) img)) (up_to n) ≤ w * h
 
 abbrev pub AllCounts : Type 0
-AllCounts = (t : Table) (w h : ℕ) (img : List ℕ) → record_verdict t ≡ Accepted → IsImage w h img → Counts t w h img
+AllCounts = (t : Table) (w h : ℕ) (img : List ℕ) → record_verdict t ≡ Ok tt → IsImage w h img → Counts t w h img

@@ -7,7 +7,7 @@
 --     modified t w h img      π
 --     Heijmans t w h img      a pass is π, the plain rule is ψ; AllHeijmans: for every accepted table and image
 -- Assumes nothing.
-use Rattle.std.specs.Prelude.{Bool, ◌&&◌, ◌||◌, List, ◌≡◌, ℕ, ◌*◌, ◌/◌, ◌%◌, min, max, eqb, get_or}
+use Rattle.std.specs.Prelude.{Bool, ◌&&◌, ◌||◌, List, ◌≡◌, ℕ, ◌*◌, ◌/◌, ◌%◌, min, max, eqb, get_or, Ok}
 use Rattle.operator.specs.Image.{pixel, IsImage, exchange}
 use Rattle.operator.specs.Pass.{opened, pass}
 use Rattle.operator.specs.Plain.{plain}
@@ -17,7 +17,6 @@ use Rattle.seq.specs.Tab.{tab}
 use Rattle.table.specs.declared.Table.{Table}
 use Rattle.table.specs.Mask.{positions}
 use Rattle.table.specs.Record.{masks, record_verdict}
-use Rattle.verdict.specs.declared.Verdict.TheVariants.{Accepted}
 
 abbrev pub black_at : ℕ → ℕ → List ℕ → ℕ → ℕ → ℕ → Bool
 black_at w h img r c n = eqb (pixel w img (site_row h r n) (site_col w c n)) 1
@@ -45,4 +44,4 @@ pub record Heijmans (t : Table) (w h : ℕ) (img : List ℕ) : Type 0 where
   pub plain_psi : plain t w h img ≡ psi t w h img
 
 abbrev pub AllHeijmans : Type 0
-AllHeijmans = (t : Table) (w h : ℕ) (img : List ℕ) → record_verdict t ≡ Accepted → IsImage w h img → Heijmans t w h img
+AllHeijmans = (t : Table) (w h : ℕ) (img : List ℕ) → record_verdict t ≡ Ok tt → IsImage w h img → Heijmans t w h img

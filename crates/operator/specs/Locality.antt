@@ -7,14 +7,13 @@
 --     Inner d hs i r          at least d rows of part i lie between its row r and each seam; the strip's own edges are no seams
 --     PartAlone               there a strip and the part cleaned alone have one value after k passes
 -- Assumes nothing.
-use Rattle.std.specs.Prelude.{List, ◌⊎◌, ◌≡◌, ℕ, suc, ◌+◌, ◌*◌, ◌≤◌, ◌<◌, length, get_or}
+use Rattle.std.specs.Prelude.{List, ◌⊎◌, ◌≡◌, ℕ, suc, ◌+◌, ◌*◌, ◌≤◌, ◌<◌, length, get_or, Ok}
 use Rattle.image.specs.Parts.{above, part_of}
 use Rattle.operator.specs.Image.{pixel}
 use Rattle.operator.specs.Pass.{passes}
 use Rattle.seq.specs.Lists.{sum_of}
 use Rattle.table.specs.declared.Table.{Table}
 use Rattle.table.specs.Record.{record_verdict}
-use Rattle.verdict.specs.declared.Verdict.TheVariants.{Accepted}
 
 abbrev pub reach : ℕ
 reach = 6
@@ -34,7 +33,7 @@ abbrev pub Locality : Type 0
 Locality = (t : Table) → Sees reach t
 
 abbrev pub Exact : Type 0
-Exact = (t : Table) × (record_verdict t ≡ Accepted) × ((d : ℕ) → Sees d t → reach ≤ d)
+Exact = (t : Table) × (record_verdict t ≡ Ok tt) × ((d : ℕ) → Sees d t → reach ≤ d)
 
 pub record Inner (d : ℕ) (hs : List ℕ) (i r : ℕ) : Type 0 where
   pub upper : (i ≡ 0) ⊎ (d ≤ r)

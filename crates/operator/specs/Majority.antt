@@ -5,13 +5,12 @@
 --     MajorityRest t w h   the same two of what it rests as
 --     AllMajorityRest      for every accepted table and size
 -- Assumes nothing.
-use Rattle.std.specs.Prelude.{List, ◌↔◌, ◌≡◌, ℕ, ◌+◌, ◌*◌, ◌≤◌, ◌<◌, get_or}
+use Rattle.std.specs.Prelude.{List, ◌↔◌, ◌≡◌, ℕ, ◌+◌, ◌*◌, ◌≤◌, ◌<◌, get_or, Ok}
 use Rattle.image.specs.Majority.{majority_of}
 use Rattle.operator.specs.Image.{IsImage, exchange, Below}
 use Rattle.operator.specs.Rest.{rested}
 use Rattle.table.specs.declared.Table.{Table}
 use Rattle.table.specs.Record.{record_verdict}
-use Rattle.verdict.specs.declared.Verdict.TheVariants.{Accepted}
 
 pub record Majority (w h : ℕ) : Type 0 where
   pub black : (a b c : List ℕ) → IsImage w h a → IsImage w h b → IsImage w h c → (i : ℕ) → i < w * h
@@ -33,4 +32,4 @@ pub record MajorityRest (t : Table) (w h : ℕ) : Type 0 where
       → Below a a' → Below b b' → Below c c' → Below (rested t w h (majority_of a b c)) (rested t w h (majority_of a' b' c'))
 
 abbrev pub AllMajorityRest : Type 0
-AllMajorityRest = (t : Table) (w h : ℕ) → record_verdict t ≡ Accepted → MajorityRest t w h
+AllMajorityRest = (t : Table) (w h : ℕ) → record_verdict t ≡ Ok tt → MajorityRest t w h

@@ -3,12 +3,11 @@
 --     Rest t w h          it is reached and stays, it is the first stable image, and exchange and order carry over
 --     AllRest             for every accepted table and size
 -- Assumes nothing.
-use Rattle.std.specs.Prelude.{List, ◌≡◌, ℕ, ◌*◌, ◌≤◌}
+use Rattle.std.specs.Prelude.{List, ◌≡◌, ℕ, ◌*◌, ◌≤◌, Ok}
 use Rattle.operator.specs.Image.{IsImage, exchange, Below}
 use Rattle.operator.specs.Pass.{passes, Stable}
 use Rattle.table.specs.declared.Table.{Table}
 use Rattle.table.specs.Record.{record_verdict}
-use Rattle.verdict.specs.declared.Verdict.TheVariants.{Accepted}
 
 unfoldable pub rested : Table → ℕ → ℕ → List ℕ → List ℕ
 rested t w h img = passes t w h (w * h) img
@@ -21,4 +20,4 @@ pub record Rest (t : Table) (w h : ℕ) : Type 0 where
   pub ordered : (a b : List ℕ) → IsImage w h a → IsImage w h b → Below a b → Below (rested t w h a) (rested t w h b)
 
 abbrev pub AllRest : Type 0
-AllRest = (t : Table) (w h : ℕ) → record_verdict t ≡ Accepted → Rest t w h
+AllRest = (t : Table) (w h : ℕ) → record_verdict t ≡ Ok tt → Rest t w h

@@ -15,9 +15,9 @@
 --     stored_row               the same for a run of stores that starts anywhere
 --     row_passes, first_rows    some cell of a row passes a test; the row of the first index that passes a test is the first row in which one passes
 -- Assumes nothing.
+use Rattle.std.specs.Prelude.{Option, None, Some, option_map, is_some}
 use mathlib.Core.Bool.{Bool, false}
 use mathlib.Core.List.{List, ◌++◌}
-use mathlib.Core.Option.{Option, none, some, map}
 use mathlib.Core.Path.{◌≡◌, refl, sym, ap, ap₂, ◌∙◌, subst}
 use Prim.Native.Nat.{ℕ, zero, suc, ◌+◌, ◌*◌, ◌/◌, ◌%◌, ◌≤◌, ◌<◌}
 use native.Mathlib.Nat.{zero-mul, mul_comm, mul-le-mul_right, div-lt_iff_lt-mul, mod-lt, div-add-mod'}
@@ -26,7 +26,6 @@ use lib.Arith.{digits_div, digits_mod, digits_lt}
 use lib.ListN.{length, get_or, set}
 use lib.Seq.{sets}
 use Rattle.seq.specs.Grid.{Cell}
-use Rattle.seq.specs.Lists.{is_some}
 use Rattle.seq.specs.Tab.{tab, first, Filled}
 use Rattle.seq.proofs.Notes.{first_some}
 use Rattle.seq.proofs.Stores.{tab_add, Stored, stored_run, fill_run}
@@ -123,16 +122,16 @@ rows_none : (p : ℕ → Bool) (w r : ℕ) → ((i : ℕ) → i < r * w → p i 
 rows_none p w r none_below k b =
     ap is_some (first_none (λ c. p (k * w + c)) w (λ c q. none_below (k * w + c) (digits_lt b q)))
 
-pub first_rows : (p : ℕ → Bool) (w h : ℕ) → map (λ i. i / w) (first p (w * h)) ≡ first (row_passes p w) h
+pub first_rows : (p : ℕ → Bool) (w h : ℕ) → option_map (λ i. i / w) (first p (w * h)) ≡ first (row_passes p w) h
 first_rows p w h = step (first p (w * h)) refl
   where
-    at : (i : ℕ) → Found p (w * h) i → 0 < w → first (row_passes p w) h ≡ some (i / w)
+    at : (i : ℕ) → Found p (w * h) i → 0 < w → first (row_passes p w) h ≡ Some (i / w)
     at i f pos =
         let split : i / w * w + i % w ≡ i = div-add-mod' i w in
         first_at (row_passes p w) h (i / w) (index_row i w h pos f.below)
         (rows_none p w (i / w) (λ k b. f.lowest k (omega arith)))
         (first_some (λ c. p (i / w * w + c)) w (mod-lt i pos) (rw split f.passes))
 
-    step : (o : Option ℕ) → first p (w * h) ≡ o → map (λ i. i / w) o ≡ first (row_passes p w) h
-    step none e = sym (first_none (row_passes p w) h (rows_none p w h (λ i b. first_nothing p (w * h) e i (rw (mul_comm w h) b))))
-    step (some i) e = let f = first_found p (w * h) i e in sym (at i f (factor_pos i w h f.below))
+    step : (o : Option ℕ) → first p (w * h) ≡ o → option_map (λ i. i / w) o ≡ first (row_passes p w) h
+    step None e = sym (first_none (row_passes p w) h (rows_none p w h (λ i b. first_nothing p (w * h) e i (rw (mul_comm w h) b))))
+    step (Some i) e = let f = first_found p (w * h) i e in sym (at i f (factor_pos i w h f.below))

@@ -7,18 +7,18 @@
 --     count_tab, count_add             counting over a table, and over the first m + n numbers
 --     drop_take                        what is left of a front behind a shorter one
 -- Assumes nothing.
+use Rattle.std.specs.Prelude.{Option, None, Some, is_some}
 use mathlib.Core.Bool.{Bool, true, false, cond, ◌&&◌, ◌||◌}
 use mathlib.Core.List.Memᴰ
 use mathlib.Core.List.{List, [], ◌∷◌, map, Memᴰ}
 use mathlib.Core.Logic.{⊎_elim}
-use mathlib.Core.Option.{Option, none, some}
 use mathlib.Core.Path.{◌≡◌, refl, sym, ap, ap₂, ◌∙◌}
 use Prim.Native.Nat.{ℕ, zero, suc, ◌+◌, ◌<◌}
 use native.Mathlib.Nat.{zero-add, suc-add, not-suc-le-zero, le_of_suc-le-suc}
 use native.Mathlib.Omega.{arith}
 use lib.ListN.{length, get_or, take, drop}
 use lib.Seq.{take-nil}
-use Rattle.seq.specs.Lists.{any, all, keep, one, count, join, is_some}
+use Rattle.seq.specs.Lists.{any, all, keep, one, count, join}
 use Rattle.seq.specs.Tab.{tab, up_to}
 use Rattle.seq.proofs.Fronts.{any_append}
 use Rattle.seq.proofs.Lists.{clash, not_true_false, and_left, and_right, and_intro, any_intro, count_append}
@@ -35,9 +35,9 @@ and_swap true false true d = refl
 and_swap true false false d = refl
 and_swap false b c d = refl
 
-pub not_some {ℓ} : {A : Type ℓ} (o : Option A) → is_some o ≡ false → o ≡ none
-not_some none h = refl
-not_some (some a) h = clash refl h
+pub not_some : {A : Type 0} (o : Option A) → is_some o ≡ false → o ≡ None
+not_some None h = refl
+not_some (Some a) h = clash refl h
 
 module _ {ℓ} {A : Type ℓ} where
   pub any_join : (p : A → Bool) (ls : List (List A)) → any p (join ls) ≡ any (any p) ls

@@ -4,14 +4,13 @@
 --     Noted p n b    b says whether one of the numbers below n passes: where a loop that notes it stands after n turns
 --     note_none, note_yes, note_no, note_all    its start, a number that passes, one that does not, its end
 -- Assumes nothing.
+use Rattle.std.specs.Prelude.{Option, None, Some, is_some}
 use mathlib.Core.Bool.{Bool, true, false, ◌||◌, or-false}
 use mathlib.Core.Logic.{⊎_elim}
-use mathlib.Core.Option.{Option, none, some}
 use mathlib.Core.Path.{◌≡◌, refl, sym, ap, ◌∙◌}
 use Prim.Native.Nat.{ℕ, ◌+◌, ◌<◌}
 use native.Mathlib.Omega.{arith}
 use borrow.Author.Count.{below_more}
-use Rattle.seq.specs.Lists.{is_some}
 use Rattle.seq.specs.Tab.{first}
 use Rattle.seq.proofs.Lists.{clash, either}
 use Rattle.seq.proofs.Tab.{first_none, first_found, first_nothing}
@@ -20,18 +19,18 @@ pub first_some : (p : ℕ → Bool) (n : ℕ) {k : ℕ} → k < n → p k ≡ tr
 first_some p n {k} h e = step (first p n) refl
   where
     step : (o : Option ℕ) → first p n ≡ o → is_some o ≡ true
-    step none q = clash e (first_nothing p n q k h)
-    step (some i) q = refl
+    step None q = clash e (first_nothing p n q k h)
+    step (Some i) q = refl
 
 pub found_more : (p : ℕ → Bool) (n : ℕ) → is_some (first p (n + 1)) ≡ (is_some (first p n) || p n)
 found_more p n = step (first p n) refl
   where
-    none_below : first p n ≡ none → p n ≡ false → first p (n + 1) ≡ none
+    none_below : first p n ≡ None → p n ≡ false → first p (n + 1) ≡ None
     none_below q e = first_none p (n + 1) (below_more (λ k. p k ≡ false) n (first_nothing p n q) e)
 
     step : (o : Option ℕ) → first p n ≡ o → is_some (first p (n + 1)) ≡ (is_some o || p n)
-    step none q = ⊎_elim (λ e. first_some p (n + 1) (omega arith) e ∙ sym e) (λ e. ap is_some (none_below q e) ∙ sym e) (either (p n))
-    step (some i) q = let f = first_found p n i q in first_some p (n + 1) (omega (arith, f.below)) f.passes
+    step None q = ⊎_elim (λ e. first_some p (n + 1) (omega arith) e ∙ sym e) (λ e. ap is_some (none_below q e) ∙ sym e) (either (p n))
+    step (Some i) q = let f = first_found p n i q in first_some p (n + 1) (omega (arith, f.below)) f.passes
 
 pub record Noted (p : ℕ → Bool) (n : ℕ) (b : Bool) : Type 0 where
   pub noted : b ≡ is_some (first p n)

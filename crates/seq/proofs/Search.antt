@@ -5,8 +5,8 @@
 --     passed_found    the first that passes
 --     passed_all      the loop's end
 -- Assumes nothing.
+use Rattle.std.specs.Prelude.{None, Some}
 use mathlib.Core.Bool.{Bool, true, false}
-use mathlib.Core.Option.{none, some}
 use mathlib.Core.Path.{◌≡◌, sym}
 use Prim.Native.Nat.{ℕ, ◌+◌, ◌≤◌, ◌<◌, zero-le}
 use native.Mathlib.Nat.{lt_of_lt_of_le}
@@ -26,8 +26,8 @@ module _ {p : ℕ → Bool} {n : ℕ} where
   pub passed_more : {k : ℕ} → Passed p n k → k < n → p k ≡ false → Passed p n (k + 1)
   passed_more {k} r l e = record { within = omega arith; no_lower = below_more (λ j. p j ≡ false) k r.no_lower e }
 
-  pub passed_found : {k : ℕ} → Passed p n k → k < n → p k ≡ true → some k ≡ first p n
+  pub passed_found : {k : ℕ} → Passed p n k → k < n → p k ≡ true → Some k ≡ first p n
   passed_found {k} r l e = sym (first_at p n k l r.no_lower e)
 
-  pub passed_all : {k : ℕ} → Passed p n k → n ≤ k → none ≡ first p n
+  pub passed_all : {k : ℕ} → Passed p n k → n ≤ k → None ≡ first p n
   passed_all r l = sym (first_none p n (λ j m. r.no_lower j (lt_of_lt_of_le m l)))

@@ -7,10 +7,10 @@
 --     first_ext                                           by elements
 --     fill_none, fill_more, fill_length, fill_at, fill_whole     a loop's start, one store, the length, an element on the way, and its end
 -- Assumes nothing.
+use Rattle.std.specs.Prelude.{Option, None, Some}
 use mathlib.Core.Bool.{Bool, true, false}
 use mathlib.Core.List.Memᴰ
 use mathlib.Core.List.{List, [], ◌∷◌, ◌++◌, append-nil, Memᴰ}
-use mathlib.Core.Option.{Option, none, some}
 use mathlib.Core.Path.{◌≡◌, refl, sym, ap, ap₂, ◌∙◌, subst}
 use Prim.Native.Nat.{ℕ, zero, suc, ◌+◌, ◌<◌, zero-le, suc-le-suc}
 use native.Mathlib.Nat.{not-suc-le-zero, le_of_suc-le-suc}
@@ -111,7 +111,7 @@ pub count_up_to : (p : ℕ → Bool) (n : ℕ) → count p (up_to (suc n)) ≡ c
 unfolding up_to
 count_up_to p n = ap (count p) (tab_suc (λ k. k) n) ∙ count_append p (up_to n) (n ∷ []) ∙ omega arith
 
-pub first_none : (p : ℕ → Bool) (n : ℕ) → ((k : ℕ) → k < n → p k ≡ false) → first p n ≡ none
+pub first_none : (p : ℕ → Bool) (n : ℕ) → ((k : ℕ) → k < n → p k ≡ false) → first p n ≡ None
 first_none p zero h = refl
 first_none p (suc n) h =
     ap₂ first_or (h zero (suc-le-suc zero-le)) (first_none (λ k. p (suc k)) n (λ k l. h (suc k) (suc-le-suc l)))
@@ -121,7 +121,7 @@ first_ext p q zero h = refl
 first_ext p q (suc n) h =
     ap₂ first_or (h zero (suc-le-suc zero-le)) (first_ext (λ k. p (suc k)) (λ k. q (suc k)) n (λ k l. h (suc k) (suc-le-suc l)))
 
-pub first_at : (p : ℕ → Bool) (n i : ℕ) → i < n → ((k : ℕ) → k < i → p k ≡ false) → p i ≡ true → first p n ≡ some i
+pub first_at : (p : ℕ → Bool) (n i : ℕ) → i < n → ((k : ℕ) → k < i → p k ≡ false) → p i ≡ true → first p n ≡ Some i
 first_at p zero i l h e = absurd (not-suc-le-zero l)
 first_at p (suc n) zero l h e = ap (λ (b : Bool). first_or b (first (λ k. p (suc k)) n)) e
 first_at p (suc n) (suc i) l h e =
@@ -133,7 +133,7 @@ pub record Found (p : ℕ → Bool) (n i : ℕ) : Type 0 where
   pub passes : p i ≡ true
   pub lowest : (k : ℕ) → k < i → p k ≡ false
 
-pub first_found : (p : ℕ → Bool) (n i : ℕ) → first p n ≡ some i → Found p n i
+pub first_found : (p : ℕ → Bool) (n i : ℕ) → first p n ≡ Some i → Found p n i
 first_found p zero i e = absurd (let z : ◌≡◌ {A = ℕ} 0 1 = cc in omega arith)
 first_found p (suc n) i e = step (p zero) refl (first (λ k. p (suc k)) n) (first_found (λ k. p (suc k)) n) e
   where
@@ -144,21 +144,21 @@ first_found p (suc n) i e = step (p zero) refl (first (λ k. p (suc k)) n) (firs
     at : (j : ℕ) → p zero ≡ false → Found (λ k. p (suc k)) n j → suc j ≡ i → Found p (suc n) i
     at j z f q = subst (λ (m : ℕ). Found p (suc n) m) q (record { below = suc-le-suc f.below; passes = f.passes; lowest = later j f z })
 
-    step : (b : Bool) → p zero ≡ b → (o : Option ℕ) → ((j : ℕ) → o ≡ some j → Found (λ k. p (suc k)) n j) → first_or b o ≡ some i → Found p (suc n) i
+    step : (b : Bool) → p zero ≡ b → (o : Option ℕ) → ((j : ℕ) → o ≡ Some j → Found (λ k. p (suc k)) n j) → first_or b o ≡ Some i → Found p (suc n) i
     step true z o below q =
         let r : 0 ≡ i = cc in
         subst (λ (m : ℕ). Found p (suc n) m) r (record { below = suc-le-suc zero-le; passes = z; lowest = λ k l. absurd (not-suc-le-zero l) })
-    step false z none below q = absurd (let r : ◌≡◌ {A = ℕ} 0 1 = cc in omega arith)
-    step false z (some j) below q = at j z (below j refl) (cc)
+    step false z None below q = absurd (let r : ◌≡◌ {A = ℕ} 0 1 = cc in omega arith)
+    step false z (Some j) below q = at j z (below j refl) (cc)
 
 -- where nothing is found, nothing passes
-pub first_nothing : (p : ℕ → Bool) (n : ℕ) → first p n ≡ none → (k : ℕ) → k < n → p k ≡ false
+pub first_nothing : (p : ℕ → Bool) (n : ℕ) → first p n ≡ None → (k : ℕ) → k < n → p k ≡ false
 first_nothing p zero e k l = absurd (not-suc-le-zero l)
 first_nothing p (suc n) e k l = step (p zero) refl (first (λ j. p (suc j)) n) refl e k l (first_nothing (λ j. p (suc j)) n)
   where
-    step : (b : Bool) → p zero ≡ b → (o : Option ℕ) → first (λ j. p (suc j)) n ≡ o → first_or b o ≡ none → (k : ℕ) → k < suc n
-        → (first (λ j. p (suc j)) n ≡ none → (j : ℕ) → j < n → p (suc j) ≡ false) → p k ≡ false
+    step : (b : Bool) → p zero ≡ b → (o : Option ℕ) → first (λ j. p (suc j)) n ≡ o → first_or b o ≡ None → (k : ℕ) → k < suc n
+        → (first (λ j. p (suc j)) n ≡ None → (j : ℕ) → j < n → p (suc j) ≡ false) → p k ≡ false
     step true z o q r k l below = absurd (let c : ◌≡◌ {A = ℕ} 0 1 = cc in omega arith)
-    step false z (some j) q r k l below = absurd (let c : ◌≡◌ {A = ℕ} 0 1 = cc in omega arith)
-    step false z none q r zero l below = z
-    step false z none q r (suc k) l below = below q k (le_of_suc-le-suc l)
+    step false z (Some j) q r k l below = absurd (let c : ◌≡◌ {A = ℕ} 0 1 = cc in omega arith)
+    step false z None q r zero l below = z
+    step false z None q r (suc k) l below = below q k (le_of_suc-le-suc l)

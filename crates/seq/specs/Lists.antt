@@ -7,11 +7,9 @@
 --     sum_of l     the sum of a list of numbers
 --     join ls     the lists of ls, one after the other
 --     same a b    the two truth values are equal
---     is_some o    o has a value
 --     same_list a b   the two lists of numbers are equal
 -- Assumes nothing.
 use Rattle.std.specs.Prelude.{Bool, true, false, cond, not, ◌&&◌, ◌||◌, List, [], ◌∷◌, ◌++◌, ℕ, ◌+◌, eqb}
-use Rattle.std.proofs.Math.Option.{Option, none, some}
 
 abbrev pub any {ℓ} : {A : Type ℓ} → (A → Bool) → List A → Bool
 any p [] = false
@@ -44,10 +42,6 @@ join (l ∷ ls) = l ++ join ls
 abbrev pub same : Bool → Bool → Bool
 same true b = b
 same false b = not b
-
-abbrev pub is_some {ℓ} : {A : Type ℓ} → Option A → Bool
-is_some none = false
-is_some (some a) = true
 
 abbrev pub same_list : List ℕ → List ℕ → Bool
 same_list [] [] = true

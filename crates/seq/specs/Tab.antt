@@ -5,8 +5,7 @@
 --     Filled f d l n   l has the elements of tab f n at its front and is the list d behind them: where a loop
 --                      that fills d from the front stands after n turns
 -- Assumes nothing.
-use Rattle.std.specs.Prelude.{Bool, true, false, List, [], ◌∷◌, ◌++◌, ◌≡◌, ℕ, zero, suc, ◌≤◌, length, drop}
-use Rattle.std.proofs.Math.Option.{Option, none, some, map}
+use Rattle.std.specs.Prelude.{Bool, true, false, List, [], ◌∷◌, ◌++◌, ◌≡◌, ℕ, zero, suc, ◌≤◌, length, drop, Option, None, Some, option_map}
 
 abbrev pub tab {ℓ} : {A : Type ℓ} → (ℕ → A) → ℕ → List A
 tab f zero = []
@@ -16,11 +15,11 @@ unfoldable pub up_to : ℕ → List ℕ
 up_to n = tab (λ k. k) n
 
 abbrev pub first_or : Bool → Option ℕ → Option ℕ
-first_or true o = some 0
-first_or false o = map suc o
+first_or true o = Some 0
+first_or false o = option_map suc o
 
 abbrev pub first : (ℕ → Bool) → ℕ → Option ℕ
-first p zero = none
+first p zero = None
 first p (suc n) = first_or (p zero) (first (λ k. p (suc k)) n)
 
 pub record Filled {ℓ} {A : Type ℓ} (f : ℕ → A) (d l : List A) (n : ℕ) : Type ℓ where

@@ -1,5 +1,6 @@
 -- The bytes of numbers, as they are written.
 --     length_number, count_bounds      a number has as many bytes as groups, one to four
+--     masks_size, masks_size_le        the bytes of masks: a sum over them, four for each at most
 --     Putting l at n j left out        where writing n at a position stands after j groups
 --     masks_last                       the bytes of one mask more
 --     first_bytes ms k                  the bytes of the first k masks
@@ -8,12 +9,15 @@
 --     length_bytes                     the length of a record's file, part by part
 --     to_leading t, to_count t, to_elements t, to_ranks t, fits     a file up to each of its parts, which fits where the file does
 --     Wrote l bytes at out             where writing a file stands after some bytes
+--     wrote_leading, wrote_count, wrote_elements, wrote_ranks     where it stands after each part of a record's file
 -- Assumes nothing.
+use Rattle.std.specs.List.{sum_by}
+use Rattle.std.proofs.lemmas.List.Sums.{sum_by-cons}
 use mathlib.Core.List.{List, [], ◌∷◌, ◌++◌, map, append-nil}
 use mathlib.Core.Path.{◌≡◌, refl, sym, ap, ap₂, ◌∙◌}
 use Prim.Native.Nat.{ℕ, ◌+◌, ◌*◌, ◌/◌, ◌%◌, ◌^◌, ◌≤◌, ◌<◌}
 use native.Mathlib.Decide.{le_ind}
-use native.Mathlib.Nat.{div-one, div-div-eq-div-mul, pow-suc, le_trans, le_of_lt, le_refl, add-zero, zero-add}
+use native.Mathlib.Nat.{div-div-eq-div-mul, pow-suc, le_trans, le_of_lt, le_refl, zero-add}
 use native.Mathlib.Numerals.{add-one}
 use native.Mathlib.Omega.{arith}
 use lib.Dec.{leb, ltb}
@@ -45,18 +49,22 @@ masks_last ms m =
     ∙ join_append (map number_bytes ms) (number_bytes m ∷ [])
     ∙ ap (λ (l : List ℕ). masks_bytes ms ++ l) (append-nil (number_bytes m))
 
+-- the length of masks, as an iterator adds it up
+pub masks_size : (ms : List ℕ) → length (masks_bytes ms) ≡ sum_by group_count ms
+masks_size [] = refl
+masks_size (m ∷ ms) =
+    length-append (number_bytes m) (masks_bytes ms) ∙ ap₂ ◌+◌ (length_number m) (masks_size ms) ∙ sym (sum_by-cons group_count m ms)
+
+pub masks_size_le : (ms : List ℕ) → length (masks_bytes ms) ≤ 4 * length ms
+masks_size_le [] = omega arith
+masks_size_le (m ∷ ms) = omega (arith, length-append (number_bytes m) (masks_bytes ms), length_number m, masks_size_le ms, count_bounds m)
+
 pub record Putting (l : List ℕ) (at n j left : ℕ) (out : List ℕ) : Type 0 where
   pub within : j ≤ group_count n
   pub shifted : left ≡ n / 128 ^ j
   pub stored : out ≡ sets l at (tab (group n) j)
 
-pub putting_none : (l : List ℕ) (at n : ℕ) → Putting l at n 0 n l
-putting_none l at n = record { within = omega arith; shifted = sym (div-one n); stored = refl }
-
 module _ {l : List ℕ} {at n j left : ℕ} {out : List ℕ} (p : Putting l at n j left out) where
-  pub putting_length : length out ≡ length l
-  putting_length = ap length p.stored ∙ length-sets l at (tab (group n) j)
-
   pub putting_more : {count b : ℕ} → count ≡ group_count n → j < count → b ≡ left % 128 + 128 * one (ltb (j + 1) count)
       → Putting l at n (j + 1) (left / 128) (set out (at + j) b)
   unfolding group
@@ -102,9 +110,6 @@ pub record Placed (ms l : List ℕ) (at k next : ℕ) (out : List ℕ) : Type 0 
   pub reached : next ≡ at + length (first_bytes ms k)
   pub stored : out ≡ sets l at (first_bytes ms k)
 
-pub placed_none : (ms l : List ℕ) (at : ℕ) → Placed ms l at 0 at l
-placed_none ms l at = record { within = omega arith; reached = sym (add-zero at); stored = refl }
-
 module _ {ms l : List ℕ} {at k next : ℕ} {out : List ℕ} (p : Placed ms l at k next out) where
   pub placed_length : length out ≡ length l
   placed_length = ap length p.stored ∙ length-sets l at (first_bytes ms k)
@@ -124,12 +129,6 @@ module _ {ms l : List ℕ} {at k next : ℕ} {out : List ℕ} (p : Placed ms l a
             s ∙ ap₂ (λ (o : List ℕ) (i : ℕ). sets o i (number_bytes (get_or ms k 0))) p.stored p.reached
             ∙ sets_append (first_bytes ms k) (number_bytes (get_or ms k 0)) l at ∙ ap (sets l at) (sym (first_more ms k h));
       }
-
-  pub placed_all : length ms ≤ k → (next ≡ at + length (masks_bytes ms)) × (out ≡ sets l at (masks_bytes ms))
-  placed_all h = (
-    p.reached ∙ ap (λ (b : List ℕ). at + length b) (first_all ms k h),
-    p.stored ∙ ap (sets l at) (first_all ms k h),
-  )
 
 -- ---- the bytes of a record, part by part
 
@@ -189,3 +188,20 @@ module _ {l bytes : List ℕ} {at : ℕ} {out : List ℕ} (w : Wrote l bytes at 
   pub wrote_all : length bytes ≤ length l → out ≡ over bytes l
   unfolding over
   wrote_all h = w.stored ∙ sets_front bytes l h
+
+-- where the writing of a record's file stands after each part, by what each part's writing answers
+module _ (t : Table) (l : List ℕ) {a : ℕ} {o : List ℕ} (leading : (a ≡ 0 + length (if_several t 0)) × (o ≡ sets l 0 (if_several t 0))) where
+  pub wrote_leading : Wrote l (to_leading t) a o
+  wrote_leading = wrote_more (wrote_none l) (if_several t 0) leading.0 leading.1
+
+  module _ {b : ℕ} {p : List ℕ} (count : (b ≡ a + group_count t.count) × (p ≡ sets o a (number_bytes t.count))) where
+    pub wrote_count : Wrote l (to_count t) b p
+    wrote_count =
+        wrote_more wrote_leading (number_bytes t.count) (count.0 ∙ ap (λ (k : ℕ). a + k) (sym (length_number t.count))) count.1
+
+    module _ {d : ℕ} {q : List ℕ} (elements : (d ≡ b + length (masks_bytes (masks t))) × (q ≡ sets p b (masks_bytes (masks t)))) where
+      pub wrote_elements : Wrote l (to_elements t) d q
+      wrote_elements = wrote_more wrote_count (masks_bytes (masks t)) elements.0 elements.1
+
+      pub wrote_ranks : {e : ℕ} {r : List ℕ} → (e ≡ d + length (if_several t t.ranks)) × (r ≡ sets q d (if_several t t.ranks)) → Wrote l (to_ranks t) e r
+      wrote_ranks ranks = wrote_more wrote_elements (if_several t t.ranks) ranks.0 ranks.1

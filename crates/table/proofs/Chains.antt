@@ -3,6 +3,7 @@
 --     read_front                  a number that stands written at the front
 --     chain_rest, chain_number, chain_accepted, chain_end     what is read where masks stand written: what follows each; each; by the rules; all of them
 -- Assumes nothing.
+use Rattle.std.specs.Prelude.{Ok}
 use mathlib.Core.Bool.{true}
 use mathlib.Core.List.{List, [], ◌∷◌, ◌++◌, append_assoc}
 use mathlib.Core.Path.{◌≡◌, refl, sym, ap, ◌∙◌}
@@ -19,7 +20,6 @@ use Rattle.table.specs.File.{rest, number, masks_bytes}
 use Rattle.table.specs.Number.{size, value, number_rules, number_bytes}
 use Rattle.table.proofs.Bytes.{masks_last}
 use Rattle.table.proofs.Front.{ReadAs, bytes_front, front_bytes, front_reads, rules_front}
-use Rattle.verdict.specs.declared.Verdict.TheVariants.{Accepted}
 use Rattle.verdict.specs.Rules.{judge}
 
 -- ---- from the numbers to the bytes
@@ -34,10 +34,10 @@ rest_bytes h zero b = b
 rest_bytes h (suc i) b = drop_bytes (size (rest h i)) (rest h i) (rest_bytes h i b)
 
 module _ (h : List ℕ) (b : are_bytes h ≡ true) where
-  pub one_back : (i place : ℕ) → judge (number_rules place (rest h i)) ≡ Accepted → rest h i ≡ number_bytes (number h i) ++ rest h (suc i)
+  pub one_back : (i place : ℕ) → judge (number_rules place (rest h i)) ≡ Ok tt → rest h i ≡ number_bytes (number h i) ++ rest h (suc i)
   one_back i place e = front_bytes (rules_front (rest h i) place (rest_bytes h i b) e)
 
-  pub chain_back : (place : ℕ → ℕ) (n : ℕ) → ((k : ℕ) → k < n → judge (number_rules (place k) (rest h k)) ≡ Accepted) → h ≡ masks_bytes (tab (number h) n) ++ rest h n
+  pub chain_back : (place : ℕ → ℕ) (n : ℕ) → ((k : ℕ) → k < n → judge (number_rules (place k) (rest h k)) ≡ Ok tt) → h ≡ masks_bytes (tab (number h) n) ++ rest h n
   chain_back place zero e = refl
   chain_back place (suc n) e =
       chain_back place n (λ k l. e k (lt_of_lt_of_le l (le_of_lt (le_refl (suc n))))) ∙ ap (λ (l : List ℕ). masks_bytes (tab (number h) n) ++ l) (one_back n (place n) (e n (le_refl (suc n))))
@@ -61,7 +61,7 @@ module _ (ms r : List ℕ) (small : (k : ℕ) → k < length ms → get_or ms k 
   pub chain_number : (k : ℕ) → k < length ms → number (masks_bytes ms ++ r) k ≡ get_or ms k 0
   chain_number k h = ap value (chain_rest k (le_of_lt h)) ∙ (read_at k h).is
 
-  pub chain_accepted : (k place : ℕ) → k < length ms → judge (number_rules place (rest (masks_bytes ms ++ r) k)) ≡ Accepted
+  pub chain_accepted : (k place : ℕ) → k < length ms → judge (number_rules place (rest (masks_bytes ms ++ r) k)) ≡ Ok tt
   chain_accepted k place h = ap (λ (l : List ℕ). judge (number_rules place l)) (chain_rest k (le_of_lt h)) ∙ (read_at k h).accepted place
 
   pub chain_end : rest (masks_bytes ms ++ r) (length ms) ≡ r

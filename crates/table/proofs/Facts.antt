@@ -2,6 +2,7 @@
 --     AcceptedTable t      the facts, rule by rule; rules 5 and 7 by positions
 --     accepted_table       they hold of every record that the check accepts
 -- Assumes nothing.
+use Rattle.std.specs.Prelude.{is_some, Ok}
 use mathlib.Core.Bool.{true, false}
 use mathlib.Core.List.{Memᴰ}
 use mathlib.Core.Logic.{⊎_elim}
@@ -11,7 +12,6 @@ use native.Mathlib.Nat.{lt_of_lt_of_le}
 use native.Mathlib.Omega.{arith}
 use borrow.Author.Tests.{not-false}
 use Rattle.seq.specs.Bits.{bit}
-use Rattle.seq.specs.Lists.{is_some}
 use Rattle.seq.proofs.Members.{take_place}
 use Rattle.seq.proofs.Tab.{first_nothing}
 use Rattle.seq.proofs.Tests.{between, lt_or_le, or_none_left, or_none_right}
@@ -21,7 +21,6 @@ use Rattle.table.specs.Record.{max_elements, max_ranks, element, persistent_at, 
 use Rattle.table.proofs.Masks.{valid_position, meets_shared, persistent_partner}
 use Rattle.table.proofs.Places.{mask_valid, mask_rises, places_used, places_left}
 use Rattle.table.proofs.Verdicts.{lowest_apart, lowest_missed, count_le, ranks_le, meets_each, persistent_each, Sound, record_sound}
-use Rattle.verdict.specs.declared.Verdict.TheVariants.{Accepted}
 use Rattle.verdict.proofs.Rules.{or_else_left, or_else_right, refuse_by_accepted}
 
 pub record AcceptedTable (t : Table) : Type 0 where
@@ -127,7 +126,7 @@ pub at_persistents : (t : Table) (P : ℕ → Type 0) → ((r : ℕ) → r < t.r
 unfolding persistents
 at_persistents t P h K m = let (r, l, q) = take_place t.ranks t.persistents 0 m in subst P (sym q) (h r l)
 
-pub accepted_table : (t : Table) → record_verdict t ≡ Accepted → AcceptedTable t
+pub accepted_table : (t : Table) → record_verdict t ≡ Ok tt → AcceptedTable t
 accepted_table t ok = record {
   count_least = least t s;
   count_most = most t s;

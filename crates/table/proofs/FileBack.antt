@@ -1,5 +1,6 @@
 -- An accepted file, read and written: the record is accepted, and its bytes are the file's.
 -- Assumes nothing.
+use Rattle.std.specs.Prelude.{Ok}
 use mathlib.Core.Bool.{Bool, true, false, not, cond, not-not}
 use mathlib.Core.List.{List, [], ◌++◌, append-nil, append_assoc}
 use mathlib.Core.Logic.{⊎_elim}
@@ -10,6 +11,7 @@ use borrow.Author.Tests.{lt-ltb, eqb-true, eq-eqb, ne_eqb, not-false}
 use lib.Dec.{ltb, eqb}
 use lib.ListN.{length, take, drop, drop_of_length-le}
 use lib.Pow.{are_bytes}
+use Rattle.verdict.specs.declared.Rule.TheVariants as why
 use Rattle.seq.proofs.Joins.{take_tab}
 use Rattle.seq.proofs.Lists.{either}
 use Rattle.seq.proofs.Tests.{in_range}
@@ -17,7 +19,7 @@ use Rattle.seq.proofs.Tab.{tab_ext}
 use Rattle.table.specs.declared.mask.Kind.{Kind}
 use Rattle.table.specs.declared.mask.Kind.TheVariants.{Element, Persistent}
 use Rattle.table.specs.Code.Reading.{before, masks_judged}
-use Rattle.table.specs.Code.Search.{range_number, bad_after, bad_of}
+use Rattle.table.specs.Code.Search.{range_rule, bad_after, bad_of}
 use Rattle.table.specs.File.{rest, number, skip_if, several, body, element_count, element_bytes, rank_bytes, rank_count, persistent_bytes, left_bytes, first_place, numbers, table_of, bytes_left, count_rules, elements_rules, ranks_rules, persistents_rules, last_rules, file_parts, file_verdict, masks_bytes, table_bytes}
 use Rattle.table.specs.Number.{number_rules, number_bytes}
 use Rattle.table.specs.Record.{max_elements, max_ranks, masks, persistents, bad_count, bad_ranks, bad_element, bad_persistent, count_rule, meet_rule, persist_rule}
@@ -26,23 +28,22 @@ use Rattle.table.proofs.Files.{several_rules, elements_judged, persistents_judge
 use Rattle.table.proofs.Judging.{part_split, judge_each}
 use Rattle.table.proofs.Tables.{numbers_good}
 use Rattle.table.proofs.Verdicts.{count_le, ranks_le, Sound}
-use Rattle.verdict.specs.declared.Verdict.TheVariants.{Accepted}
 use Rattle.verdict.specs.Rules.{refuse_if, or_else, judge}
 use Rattle.verdict.proofs.Rules.{judge_last, or_else_left, or_else_right, or_else_accepted, refuse_if_accepted}
 
 -- ---- the rules that an accepted file has passed
 
 pub record Passed (f : List ℕ) : Type 0 where
-  pub first : judge (number_rules 0 f) ≡ Accepted
-  pub count_number : judge (number_rules 0 (body f)) ≡ Accepted
+  pub first : judge (number_rules 0 f) ≡ Ok tt
+  pub count_number : judge (number_rules 0 (body f)) ≡ Ok tt
   pub counted : bad_count (element_count f) ≡ false
-  pub elements : judge (elements_rules f) ≡ Accepted
-  pub ranks : judge (ranks_rules f) ≡ Accepted
-  pub persistents : judge (persistents_rules f) ≡ Accepted
+  pub elements : judge (elements_rules f) ≡ Ok tt
+  pub ranks : judge (ranks_rules f) ≡ Ok tt
+  pub persistents : judge (persistents_rules f) ≡ Ok tt
   pub no_bytes : bytes_left f ≡ false
-  pub related : or_else (meet_rule (table_of f)) (persist_rule (table_of f)) ≡ Accepted
+  pub related : or_else (meet_rule (table_of f)) (persist_rule (table_of f)) ≡ Ok tt
 
-pub file_passed : (f : List ℕ) → file_verdict f ≡ Accepted → Passed f
+pub file_passed : (f : List ℕ) → file_verdict f ≡ Ok tt → Passed f
 unfolding file_verdict table_of bad_count
 file_passed f e =
     let (first, e₁) = part_split (number_rules 0 f) (drop 1 (file_parts f)) e in
@@ -52,16 +53,16 @@ file_passed f e =
     let (persistents, e₅) = part_split (persistents_rules f) (drop 5 (file_parts f)) e₄ in
     let last = (part_split (last_rules f) [] e₅).0 in
     let count-parts = sym (judge_last (number_rules 0 (body f)) (count_rule (table_of f))) ∙ count in
-    let relations = or_else (meet_rule (table_of f)) (or_else (persist_rule (table_of f)) Accepted) in
-    let bytes = refuse_if (bytes_left f) 8 (first_place f + rank_count f) in
+    let relations = or_else (meet_rule (table_of f)) (or_else (persist_rule (table_of f)) (Ok tt)) in
+    let bytes = refuse_if (bytes_left f) why.BytesLeft (first_place f + rank_count f) in
     record {
       first = first;
       count_number = or_else_left (judge (number_rules 0 (body f))) (count_rule (table_of f)) count-parts;
-      counted = refuse_if_accepted (bad_count (element_count f)) 3 0 (or_else_right (judge (number_rules 0 (body f))) (count_rule (table_of f)) count-parts);
+      counted = refuse_if_accepted (bad_count (element_count f)) why.ElementCount 0 (or_else_right (judge (number_rules 0 (body f))) (count_rule (table_of f)) count-parts);
       elements = elements;
       ranks = ranks;
       persistents = persistents;
-      no_bytes = refuse_if_accepted (bytes_left f) 8 (first_place f + rank_count f) (or_else_left bytes relations last);
+      no_bytes = refuse_if_accepted (bytes_left f) why.BytesLeft (first_place f + rank_count f) (or_else_left bytes relations last);
       related = ap (or_else (meet_rule (table_of f))) (sym (or_else_accepted (persist_rule (table_of f)))) ∙ or_else_right bytes relations last;
     }
 
@@ -72,18 +73,18 @@ module _ (f : List ℕ) (p : Passed f) where
   -- ---- the two forms
 
   -- the rules on the number of persistent elements, where there are several
-  ranks_parts : several f ≡ true → or_else (judge (number_rules (element_count f + 1) (rank_bytes f))) (refuse_if (bad_ranks 2 (rank_count f)) 18 (element_count f + 1)) ≡ Accepted
+  ranks_parts : several f ≡ true → or_else (judge (number_rules (element_count f + 1) (rank_bytes f))) (refuse_if (bad_ranks 2 (rank_count f)) why.RankCount (element_count f + 1)) ≡ Ok tt
   ranks_parts e =
-      sym (judge_last (number_rules (element_count f + 1) (rank_bytes f)) (refuse_if (bad_ranks 2 (rank_count f)) 18 (element_count f + 1)))
+      sym (judge_last (number_rules (element_count f + 1) (rank_bytes f)) (refuse_if (bad_ranks 2 (rank_count f)) why.RankCount (element_count f + 1)))
       ∙ ap (λ (b : Bool). judge (cond b (several_rules f) [])) (sym e) ∙ p.ranks
 
-  ranks_number : several f ≡ true → judge (number_rules (element_count f + 1) (rank_bytes f)) ≡ Accepted
+  ranks_number : several f ≡ true → judge (number_rules (element_count f + 1) (rank_bytes f)) ≡ Ok tt
   ranks_number e = or_else_left (judge (number_rules (element_count f + 1) (rank_bytes f))) _ (ranks_parts e)
 
   two_or_more : several f ≡ true → (2 ≤ rank_count f) × (rank_count f ≤ max_ranks)
   two_or_more e =
       ranks_le 2 (rank_count f)
-      (refuse_if_accepted (bad_ranks 2 (rank_count f)) 18 (element_count f + 1) (or_else_right (judge (number_rules (element_count f + 1) (rank_bytes f))) _ (ranks_parts e)))
+      (refuse_if_accepted (bad_ranks 2 (rank_count f)) why.RankCount (element_count f + 1) (or_else_right (judge (number_rules (element_count f + 1) (rank_bytes f))) _ (ranks_parts e)))
 
   only_one : several f ≡ false → rank_count f ≡ 1
   unfolding rank_count
@@ -103,10 +104,10 @@ module _ (f : List ℕ) (p : Passed f) where
 
   -- ---- the record is accepted
 
-  elements_passed : masks_judged Element (element_bytes f) 1 (element_count f) ≡ Accepted
+  elements_passed : masks_judged Element (element_bytes f) 1 (element_count f) ≡ Ok tt
   elements_passed = sym (elements_judged f few) ∙ p.elements
 
-  persistents_passed : masks_judged Persistent (persistent_bytes f) (first_place f) (rank_count f) ≡ Accepted
+  persistents_passed : masks_judged Persistent (persistent_bytes f) (first_place f) (rank_count f) ≡ Ok tt
   persistents_passed = sym (persistents_judged f ranks_within.1) ∙ p.persistents
 
   pub read_sound : Sound (table_of f)
@@ -123,20 +124,20 @@ module _ (f : List ℕ) (p : Passed f) where
 -- ---- its bytes, part by part
 
 -- masks that their rules accept, written again
-masks_back : (kind : Kind) (h : List ℕ) (q n m : ℕ) → are_bytes h ≡ true → n ≤ m → masks_judged kind h q n ≡ Accepted → h ≡ masks_bytes (take n (numbers h n m)) ++ rest h n
+masks_back : (kind : Kind) (h : List ℕ) (q n m : ℕ) → are_bytes h ≡ true → n ≤ m → masks_judged kind h q n ≡ Ok tt → h ≡ masks_bytes (take n (numbers h n m)) ++ rest h n
 unfolding numbers
 masks_back kind h q n m b l e =
     chain_back h b (λ k. q + k) n each
     ∙ ap (λ (ms : List ℕ). masks_bytes ms ++ rest h n)
     (sym (take_tab (λ k. cond (ltb k n) (number h k) 0) n m l ∙ tab_ext (λ k. cond (ltb k n) (number h k) 0) (number h) n (λ k i. simp (lt-ltb k n i))))
   where
-    each : (k : ℕ) → k < n → judge (number_rules (q + k) (rest h k)) ≡ Accepted
+    each : (k : ℕ) → k < n → judge (number_rules (q + k) (rest h k)) ≡ Ok tt
     each k i =
-        or_else_left (judge (number_rules (q + k) (rest h k))) (refuse_if (bad_after kind (before h k) (number h k)) (range_number kind) (q + k))
-        (sym (judge_last (number_rules (q + k) (rest h k)) (refuse_if (bad_after kind (before h k) (number h k)) (range_number kind) (q + k))) ∙ judge_each _ n k i e)
+        or_else_left (judge (number_rules (q + k) (rest h k))) (refuse_if (bad_after kind (before h k) (number h k)) (range_rule kind) (q + k))
+        (sym (judge_last (number_rules (q + k) (rest h k)) (refuse_if (bad_after kind (before h k) (number h k)) (range_rule kind) (q + k))) ∙ judge_each _ n k i e)
 
 -- a number that stands where b holds, written again
-skip_back : (b : Bool) (h : List ℕ) (place n : ℕ) → are_bytes h ≡ true → (b ≡ true → (judge (number_rules place h) ≡ Accepted) × (number h 0 ≡ n))
+skip_back : (b : Bool) (h : List ℕ) (place n : ℕ) → are_bytes h ≡ true → (b ≡ true → (judge (number_rules place h) ≡ Ok tt) × (number h 0 ≡ n))
     → h ≡ cond (not b) [] (number_bytes n) ++ skip_if b h
 skip_back false h place n b e = refl
 skip_back true h place n b e = one_back h b 0 place (e refl).0 ∙ ap (λ (m : ℕ). number_bytes m ++ rest h 1) (e refl).1

@@ -5,6 +5,7 @@
 --     front_reads          what the definitions read there
 --     rules_front          what the rules accept stands so
 -- Assumes nothing.
+use Rattle.std.specs.Prelude.{Ok}
 use mathlib.Core.Bool.{Bool, true, false, ◌&&◌, and-true, and-false}
 use mathlib.Core.List.{List, [], ◌∷◌, ◌++◌}
 use mathlib.Core.Logic.{◌⊎◌, inl, inr}
@@ -15,9 +16,9 @@ use borrow.Author.Tests.{leb-false, lt-leb, lt-ltb, eq-eqb, ne_eqb}
 use lib.Dec.{leb, eqb}
 use lib.ListN.{length, get_or, take, drop}
 use lib.Pow.{are_bytes}
+use Rattle.verdict.specs.declared.Rule.TheVariants as why
 use Rattle.seq.proofs.Tests.{lt_or_le}
 use Rattle.table.specs.Number.{more, size, groups, value, ends, too_long, not_fewest, number_rules, number_bytes}
-use Rattle.verdict.specs.declared.Verdict.TheVariants.{Accepted}
 use Rattle.verdict.specs.Rules.{refuse_if, judge}
 use Rattle.verdict.proofs.Rules.{refused_accepted}
 use Rattle.table.proofs.Fewest.{bytes_last, Fewest, reads, written, stands, fewest_lt, found}
@@ -40,7 +41,7 @@ front_bytes (several f) = written f (fewest_lt f)
 pub record ReadAs (l : List ℕ) (n : ℕ) (r : List ℕ) : Type 0 where
   pub is : value l ≡ n
   pub behind : drop (size l) l ≡ r
-  pub accepted : (place : ℕ) → judge (number_rules place l) ≡ Accepted
+  pub accepted : (place : ℕ) → judge (number_rules place l) ≡ Ok tt
 
 -- what is read where m bytes have bit 7 set
 reads_at : (l : List ℕ) (m : ℕ) → more l ≡ m → m < 4 → m < length l → (leb 1 m && eqb (get_or l m 0) 0) ≡ false
@@ -69,7 +70,7 @@ front_reads (several {l} {n} {r} f) =
     (ap (λ (b : Bool). leb 1 w.index && b) (ne_eqb (get_or l w.index 0) 0 (λ e. omega (arith, w.nonzero))) ∙ and-false (leb 1 w.index)))
 
 -- what three rules that accept say
-three : (a b c : Bool) (place : ℕ) → judge (refuse_if a 1 place ∷ refuse_if b 2 place ∷ refuse_if c 2 place ∷ []) ≡ Accepted → (a ≡ false) × (b ≡ false) × (c ≡ false)
+three : (a b c : Bool) (place : ℕ) → judge (refuse_if a why.NumberEnds place ∷ refuse_if b why.NumberForm place ∷ refuse_if c why.NumberForm place ∷ []) ≡ Ok tt → (a ≡ false) × (b ≡ false) × (c ≡ false)
 three true b c place e = refused_accepted refl e
 three false true c place e = refused_accepted refl e
 three false false true place e = refused_accepted refl e
@@ -80,7 +81,7 @@ zero_front : (l : List ℕ) → 0 < length l → get_or l 0 0 ≡ 0 → (n : ℕ
 zero_front [] w z = absurd (omega arith)
 zero_front (a ∷ r) w z = (a, r, single {a = a} (omega arith))
 
-pub rules_front : (l : List ℕ) (place : ℕ) → are_bytes l ≡ true → judge (number_rules place l) ≡ Accepted → Front l (value l) (drop (size l) l)
+pub rules_front : (l : List ℕ) (place : ℕ) → are_bytes l ≡ true → judge (number_rules place l) ≡ Ok tt → Front l (value l) (drop (size l) l)
 unfolding ends too_long not_fewest more
 rules_front l place b e =
     let front = step (lt_or_le (get_or l (more l) 0) 1) in

@@ -4,6 +4,7 @@
 --     says_each                            what is said of each number is said of the list
 --     judge_more, judge_each, judge_at     one number more that accepts; each that is accepted; the first that refuses
 -- Assumes nothing.
+use Rattle.std.specs.Prelude.{Ok, Err}
 use mathlib.Core.List.{List, [], ◌∷◌, map}
 use mathlib.Core.Path.{◌≡◌, refl, sym, ap, ap₂, ◌∙◌}
 use Prim.Native.Nat.{ℕ, suc, ◌<◌}
@@ -14,29 +15,27 @@ use Rattle.seq.proofs.Joins.{join_up_to}
 use Rattle.seq.proofs.Lists.{join_intro, map_intro}
 use Rattle.seq.proofs.Tab.{up_to_intro}
 use Rattle.verdict.specs.declared.Refusal.{Refusal}
-use Rattle.verdict.specs.declared.Verdict.{Verdict}
-use Rattle.verdict.specs.declared.Verdict.TheVariants.{Accepted, Refused}
 use Rattle.verdict.specs.Numbers.{Says, accepts}
-use Rattle.verdict.specs.Rules.{or_else, judge}
+use Rattle.verdict.specs.Rules.{or_else, judge, Verdict}
 use Rattle.verdict.proofs.Numbers.{says_append}
 use Rattle.verdict.proofs.Rules.{refused_accepted, judge_append, judge_accepted, accepted_judge, or_else_left, or_else_right}
 
 -- where four verdicts in a row accept, each does
-pub four_accepted : (a b c d : Verdict) → or_else a (or_else b (or_else c d)) ≡ Accepted → (a ≡ Accepted) × (b ≡ Accepted) × (c ≡ Accepted) × (d ≡ Accepted)
-four_accepted Accepted Accepted Accepted d q = (refl, refl, refl, q)
-four_accepted Accepted Accepted (Refused r) d q = refused_accepted refl q
-four_accepted Accepted (Refused r) c d q = refused_accepted refl q
-four_accepted (Refused r) b c d q = refused_accepted refl q
+pub four_accepted : (a b c d : Verdict) → or_else a (or_else b (or_else c d)) ≡ Ok tt → (a ≡ Ok tt) × (b ≡ Ok tt) × (c ≡ Ok tt) × (d ≡ Ok tt)
+four_accepted (Ok _) (Ok _) (Ok _) d q = (refl, refl, refl, q)
+four_accepted (Ok _) (Ok _) (Err r) d q = refused_accepted refl q
+four_accepted (Ok _) (Err r) c d q = refused_accepted refl q
+four_accepted (Err r) b c d q = refused_accepted refl q
 
 -- check lists in parts, one after the other
 module _ (part : List Verdict) (parts : List (List Verdict)) where
-  pub part_refuses : {r : Refusal} → judge part ≡ Refused r → judge (join (part ∷ parts)) ≡ Refused r
+  pub part_refuses : {r : Refusal} → judge part ≡ Err r → judge (join (part ∷ parts)) ≡ Err r
   part_refuses e = judge_append part (join parts) ∙ ap (λ (v : Verdict). or_else v (judge (join parts))) e
 
-  pub part_accepts : judge part ≡ Accepted → judge (join (part ∷ parts)) ≡ judge (join parts)
+  pub part_accepts : judge part ≡ Ok tt → judge (join (part ∷ parts)) ≡ judge (join parts)
   part_accepts e = judge_append part (join parts) ∙ ap (λ (v : Verdict). or_else v (judge (join parts))) e
 
-  pub part_split : judge (join (part ∷ parts)) ≡ Accepted → (judge part ≡ Accepted) × (judge (join parts) ≡ Accepted)
+  pub part_split : judge (join (part ∷ parts)) ≡ Ok tt → (judge part ≡ Ok tt) × (judge (join parts) ≡ Ok tt)
   part_split e =
       let w = sym (judge_append part (join parts)) ∙ e in
       (or_else_left (judge part) (judge (join parts)) w, or_else_right (judge part) (judge (join parts)) w)
@@ -53,11 +52,11 @@ module _ (rules : ℕ → List Verdict) where
   below_suc : (k : ℕ) → below (suc k) ≡ or_else (below k) (judge (rules k))
   below_suc k = ap judge (join_up_to rules k) ∙ judge_append (join (map rules (up_to k))) (rules k)
 
-  pub judge_more : (k : ℕ) → below k ≡ Accepted → judge (rules k) ≡ Accepted → below (suc k) ≡ Accepted
+  pub judge_more : (k : ℕ) → below k ≡ Ok tt → judge (rules k) ≡ Ok tt → below (suc k) ≡ Ok tt
   judge_more k e q = below_suc k ∙ ap₂ or_else e q
 
-  pub judge_each : (n k : ℕ) → k < n → below n ≡ Accepted → judge (rules k) ≡ Accepted
+  pub judge_each : (n k : ℕ) → k < n → below n ≡ Ok tt → judge (rules k) ≡ Ok tt
   judge_each n k h e = accepted_judge (rules k) (λ v m. judge_accepted e (join_intro m (map_intro rules (up_to_intro h))))
 
-  pub judge_at : (n k : ℕ) {r : Refusal} → k < n → below k ≡ Accepted → judge (rules k) ≡ Refused r → below n ≡ Refused r
-  judge_at n k {r} l e q = le_ind (λ (m : ℕ). below m ≡ Refused r) (below_suc k ∙ ap₂ or_else e q) (λ m h below-m. below_suc m ∙ ap (λ (v : Verdict). or_else v (judge (rules m))) below-m) n l
+  pub judge_at : (n k : ℕ) {r : Refusal} → k < n → below k ≡ Ok tt → judge (rules k) ≡ Err r → below n ≡ Err r
+  judge_at n k {r} l e q = le_ind (λ (m : ℕ). below m ≡ Err r) (below_suc k ∙ ap₂ or_else e q) (λ m h below-m. below_suc m ∙ ap (λ (v : Verdict). or_else v (judge (rules m))) below-m) n l

@@ -6,6 +6,7 @@ pub mod Facts
 pub mod Fewest
 pub mod FileBack
 pub mod Files
+pub mod Found
 pub mod Front
 pub mod Groups
 pub mod Judging

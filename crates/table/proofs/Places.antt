@@ -4,12 +4,11 @@
 --     mask_valid, good_valid, mask_rises     a mask that is not bad is a valid mask, above the one before
 --     places_used, places_left    what a list without bad places has in the places that are in use, and in the others
 --     place_lt                no mask of a list without bad places has a bit above position 24
---     found_none              a search that found nothing
 --     missed_is               an element is missed where a position of the persistent element has no partner in it
 -- Assumes nothing.
+use Rattle.std.specs.Prelude.{None, is_some}
 use mathlib.Core.Bool.{Bool, true, false, not, ◌&&◌, ◌||◌, not-not}
 use mathlib.Core.List.{List}
-use mathlib.Core.Option.{Option, none}
 use mathlib.Core.Path.{◌≡◌, refl, sym, ap, ◌∙◌}
 use Prim.Native.Nat.{ℕ, suc, ◌-◌, ◌^◌, ◌≤◌, ◌<◌}
 use native.Mathlib.Nat.{lt_of_lt_of_le}
@@ -18,14 +17,11 @@ use borrow.Author.Tests.{leb-false, le-leb, lt-leb, lt-ltb, le-ltb, eqb-true, no
 use lib.Dec.{leb, eqb}
 use lib.ListN.{length, get_or}
 use Rattle.seq.specs.Bits.{bit}
-use Rattle.seq.specs.Lists.{is_some}
 use Rattle.seq.specs.Tab.{first}
 use Rattle.seq.proofs.Tab.{first_nothing}
 use Rattle.seq.proofs.Tests.{or_none_left, or_none_right}
 use Rattle.table.specs.declared.mask.Kind.{Kind}
-use Rattle.table.specs.declared.mask.Search.{Search}
-use Rattle.table.specs.declared.mask.Search.TheVariants.{Nothing}
-use Rattle.table.specs.Code.Search.{found, leaves_centre, bad_after, bad_of, lowest_bad}
+use Rattle.table.specs.Code.Search.{leaves_centre, bad_after, bad_of, lowest_bad}
 use Rattle.table.specs.Mask.{position_count, centre, valid_mask, unpartnered, persistent_for}
 use Rattle.table.specs.Record.{not_rising, bad_mask, bad_place}
 use Rattle.table.proofs.Positions.{mask_least, mask_lt}
@@ -73,20 +69,16 @@ module _ (ms : List ℕ) (n : ℕ) (bad : ℕ → Bool) (k : ℕ) where
   bad_past h = simp (le-ltb k n h)
 
 -- a list of m places without a bad one
-module _ (ms : List ℕ) (n : ℕ) (bad : ℕ → Bool) (m : ℕ) (e : first (bad_place ms n bad) m ≡ none) (k : ℕ) (l : k < m) where
+module _ (ms : List ℕ) (n : ℕ) (bad : ℕ → Bool) (m : ℕ) (e : first (bad_place ms n bad) m ≡ None) (k : ℕ) (l : k < m) where
   pub places_used : k < n → bad k ≡ false
   places_used h = sym (bad_within ms n bad k h) ∙ first_nothing (bad_place ms n bad) m e k l
 
   pub places_left : n ≤ k → get_or ms k 0 ≡ 0
   places_left h = eqb-true (get_or ms k 0) 0 (not-false (eqb (get_or ms k 0) 0) (sym (bad_past ms n bad k h) ∙ first_nothing (bad_place ms n bad) m e k l))
 
-pub place_lt : (kind : Kind) (ms : List ℕ) (n : ℕ) → lowest_bad kind ms n ≡ none → n ≤ length ms → (k : ℕ) → k < n → get_or ms k 0 < 2 ^ position_count
+pub place_lt : (kind : Kind) (ms : List ℕ) (n : ℕ) → lowest_bad kind ms n ≡ None → n ≤ length ms → (k : ℕ) → k < n → get_or ms k 0 < 2 ^ position_count
 unfolding lowest_bad
 place_lt kind ms n e m k h = mask_lt (get_or ms k 0) (good_valid kind ms k (places_used ms n (bad_of kind ms) (length ms) e k (lt_of_lt_of_le h m) h))
-
--- a search that found nothing
-pub found_none : {s : Search} {o : Option ℕ} → found s ≡ o → s ≡ Nothing → is_some o ≡ false
-found_none e q = ap is_some (sym e ∙ ap found q)
 
 pub missed_is : (K e : ℕ) → not (persistent_for K e) ≡ is_some (unpartnered K e)
 unfolding persistent_for

@@ -1,5 +1,6 @@
 -- A record that the check accepts, written and read: the same numbers, the same record, and an accepted file.
 -- Assumes nothing.
+use Rattle.std.specs.Prelude.{Ok}
 use mathlib.Core.Bool.{Bool, true, false, not, cond}
 use mathlib.Core.List.{List, [], ◌∷◌, ◌++◌, append-nil, append_assoc}
 use mathlib.Core.Path.{◌≡◌, refl, sym, ap, ap₂, ◌∙◌}
@@ -11,6 +12,7 @@ use lib.Dec.{eqb}
 use lib.ListN.{length, get_or, take, drop}
 use lib.Seq.{length-take-le, get_or-take}
 use Rattle.seq.specs.Tab.{up_to}
+use Rattle.verdict.specs.declared.Rule.TheVariants as why
 use Rattle.seq.proofs.Tests.{in_range}
 use Rattle.table.specs.declared.Table.{Table}
 use Rattle.table.specs.File.{rest, number, skip_if, several, body, element_count, element_bytes, rank_bytes, rank_count, persistent_bytes, left_bytes, first_place, numbers, table_of, bytes_left, masks_rules, count_rules, elements_rules, ranks_rules, persistents_rules, last_rules, file_parts, file_verdict, if_several, masks_bytes, table_bytes}
@@ -25,7 +27,7 @@ use Rattle.table.proofs.Judging.{judge_more, part_accepts}
 use Rattle.table.proofs.Positions.{mask_lt}
 use Rattle.table.proofs.Tables.{numbers_are}
 use Rattle.table.proofs.Verdicts.{Sound}
-use Rattle.verdict.specs.declared.Verdict.TheVariants.{Accepted}
+use Rattle.verdict.specs.declared.Rule.{Rule}
 use Rattle.verdict.specs.Rules.{refuse_if, or_else, judge}
 use Rattle.verdict.proofs.Rules.{judge_last, or_else_accepted}
 
@@ -48,7 +50,7 @@ module _ (ms : List ℕ) (n : ℕ) (l : n ≤ length ms) (small : (k : ℕ) → 
   front_end = ap (rest these) (sym size_of_lem) ∙ chain_end (take n ms) r small_front
 
   -- the rules on them accept, where none is bad
-  front_accepted : (p : ℕ) (bad : ℕ → Bool) (i : ℕ) → ((k : ℕ) → k < n → bad k ≡ false) → (k : ℕ) → k ≤ n → judge (masks_rules these p k bad i) ≡ Accepted
+  front_accepted : (p : ℕ) (bad : ℕ → Bool) (i : Rule) → ((k : ℕ) → k < n → bad k ≡ false) → (k : ℕ) → k ≤ n → judge (masks_rules these p k bad i) ≡ Ok tt
   unfolding up_to
   front_accepted p bad i good zero h = refl
   front_accepted p bad i good (suc k) h =
@@ -162,60 +164,60 @@ module _ (t : Table) (whole : length t.elements ≡ max_elements) (all-ranks : l
 
   -- ---- and accepted
 
-  first_accepted : judge (number_rules 0 f) ≡ Accepted
+  first_accepted : judge (number_rules 0 f) ≡ Ok tt
   first_accepted = ap (λ (l : List ℕ). judge (number_rules 0 l)) parts ∙ step single
     where
-      step : (b : Bool) → judge (number_rules 0 (cond b [] (number_bytes 0) ++ from_count)) ≡ Accepted
+      step : (b : Bool) → judge (number_rules 0 (cond b [] (number_bytes 0) ++ from_count)) ≡ Ok tt
       step true = read_count.accepted 0
       step false = (read_front 0 from_count (omega arith)).accepted 0
 
-  count_accepted : judge (count_rules f) ≡ Accepted
+  count_accepted : judge (count_rules f) ≡ Ok tt
   unfolding bad_count
   count_accepted =
       judge_last (number_rules 0 (body f)) (count_rule (table_of f))
       ∙ ap₂ or_else (ap (λ (l : List ℕ). judge (number_rules 0 l)) is_body ∙ read_count.accepted 0)
-      (ap count_rule table_back ∙ ap (λ (b : Bool). refuse_if b 3 0) s.counted)
+      (ap count_rule table_back ∙ ap (λ (b : Bool). refuse_if b why.ElementCount 0) s.counted)
 
-  elements_accepted : judge (elements_rules f) ≡ Accepted
+  elements_accepted : judge (elements_rules f) ≡ Ok tt
   unfolding masks
   elements_accepted =
-      ap (λ (u : Table). judge (masks_rules (element_bytes f) 1 (element_count f) (bad_element u) 4)) table_back
-      ∙ ap₂ (λ (l : List ℕ) (n : ℕ). judge (masks_rules l 1 n (bad_element t) 4)) is_elements is_count
-      ∙ front_accepted t.elements t.count (omega (arith, few)) small_element from_ranks 1 (bad_element t) 4 (good_element t s) t.count (le_refl t.count)
+      ap (λ (u : Table). judge (masks_rules (element_bytes f) 1 (element_count f) (bad_element u) why.ElementRange)) table_back
+      ∙ ap₂ (λ (l : List ℕ) (n : ℕ). judge (masks_rules l 1 n (bad_element t) why.ElementRange)) is_elements is_count
+      ∙ front_accepted t.elements t.count (omega (arith, few)) small_element from_ranks 1 (bad_element t) why.ElementRange (good_element t s) t.count (le_refl t.count)
 
-  ranks_accepted : judge (ranks_rules f) ≡ Accepted
+  ranks_accepted : judge (ranks_rules f) ≡ Ok tt
   unfolding bad_ranks
   ranks_accepted = ap (λ (b : Bool). judge (cond b (several_rules f) [])) is_several ∙ step single refl
     where
-      several_accepted : single ≡ false → judge (several_rules f) ≡ Accepted
+      several_accepted : single ≡ false → judge (several_rules f) ≡ Ok tt
       several_accepted e =
-          judge_last (number_rules (element_count f + 1) (rank_bytes f)) (refuse_if (bad_ranks 2 (rank_count f)) 18 (element_count f + 1))
+          judge_last (number_rules (element_count f + 1) (rank_bytes f)) (refuse_if (bad_ranks 2 (rank_count f)) why.RankCount (element_count f + 1))
           ∙ ap₂ or_else
           (ap (λ (l : List ℕ). judge (number_rules (element_count f + 1) l)) (is_ranks ∙ ap (λ (b : Bool). cond b [] (number_bytes t.ranks) ++ from_persistents) e)
           ∙ (read_front t.ranks from_persistents (omega (arith, ranks_within))).accepted (element_count f + 1))
-          (ap (λ (b : Bool). refuse_if (not b) 18 (element_count f + 1)) (in_range 2 (rank_count f) max_ranks two (omega (arith, is_rank_count, ranks_within))))
+          (ap (λ (b : Bool). refuse_if (not b) why.RankCount (element_count f + 1)) (in_range 2 (rank_count f) max_ranks two (omega (arith, is_rank_count, ranks_within))))
         where
           two : 2 ≤ rank_count f
           two = let other = eqb-false t.ranks 1 e in omega (arith, is_rank_count, ranks_within)
 
-      step : (b : Bool) → single ≡ b → judge (cond (not b) (several_rules f) []) ≡ Accepted
+      step : (b : Bool) → single ≡ b → judge (cond (not b) (several_rules f) []) ≡ Ok tt
       step true e = refl
       step false e = several_accepted e
 
-  persistents_accepted : judge (persistents_rules f) ≡ Accepted
+  persistents_accepted : judge (persistents_rules f) ≡ Ok tt
   unfolding persistents
   persistents_accepted =
-      ap (λ (u : Table). judge (masks_rules (persistent_bytes f) (first_place f) (rank_count f) (bad_persistent u) 6)) table_back
-      ∙ ap₂ (λ (l : List ℕ) (n : ℕ). judge (masks_rules l (first_place f) n (bad_persistent t) 6)) is_persistents is_rank_count
-      ∙ front_accepted t.persistents t.ranks (omega (arith, ranks_within)) small_persistent [] (first_place f) (bad_persistent t) 6 (good_persistent t s) t.ranks (le_refl t.ranks)
+      ap (λ (u : Table). judge (masks_rules (persistent_bytes f) (first_place f) (rank_count f) (bad_persistent u) why.PersistentRange)) table_back
+      ∙ ap₂ (λ (l : List ℕ) (n : ℕ). judge (masks_rules l (first_place f) n (bad_persistent t) why.PersistentRange)) is_persistents is_rank_count
+      ∙ front_accepted t.persistents t.ranks (omega (arith, ranks_within)) small_persistent [] (first_place f) (bad_persistent t) why.PersistentRange (good_persistent t s) t.ranks (le_refl t.ranks)
 
-  last_accepted : judge (last_rules f) ≡ Accepted
+  last_accepted : judge (last_rules f) ≡ Ok tt
   unfolding bytes_left
   last_accepted =
-      ap₂ (λ (l : List ℕ) (u : Table). or_else (refuse_if (not (eqb (length l) 0)) 8 (first_place f + rank_count f)) (or_else (meet_rule u) (or_else (persist_rule u) Accepted))) is_left table_back
+      ap₂ (λ (l : List ℕ) (u : Table). or_else (refuse_if (not (eqb (length l) 0)) why.BytesLeft (first_place f + rank_count f)) (or_else (meet_rule u) (or_else (persist_rule u) (Ok tt)))) is_left table_back
       ∙ ap (or_else (meet_rule t)) (or_else_accepted (persist_rule t)) ∙ s.related
 
-  pub file_accepted : file_verdict f ≡ Accepted
+  pub file_accepted : file_verdict f ≡ Ok tt
   unfolding file_verdict
   file_accepted =
       part_accepts (number_rules 0 f) (drop 1 (file_parts f)) first_accepted

@@ -6,11 +6,11 @@
 --     mask_good, mask_in_range       where these accept, each mask is good, and has no bit above position 24
 --     numbers_good                   and so are the places of the record
 -- Assumes nothing.
+use Rattle.std.specs.Prelude.{None, Ok}
 use mathlib.Core.Bool.{Bool, false, cond, not, ◌&&◌, ◌||◌}
 use mathlib.Core.List.Memᴰ
 use mathlib.Core.List.{List, [], ◌∷◌, ◌++◌}
 use mathlib.Core.Logic.{◌⊎◌, inl, inr}
-use mathlib.Core.Option.{none}
 use mathlib.Core.Path.{◌≡◌, refl, ap, ap₂, ◌∙◌}
 use Prim.Native.Nat.{ℕ, zero, suc, ◌+◌, ◌-◌, ◌^◌, ◌≤◌, ◌<◌}
 use native.Mathlib.Nat.{lt_of_lt_of_le}
@@ -27,16 +27,14 @@ use Rattle.seq.proofs.Tab.{get_d_tab, tab_of, up_to_intro, up_to_elim, first_non
 use Rattle.seq.proofs.Tests.{lt_or_le, or_none_left, or_none_right}
 use Rattle.table.specs.declared.mask.Kind.{Kind}
 use Rattle.table.specs.Code.Reading.{before, masks_judged}
-use Rattle.table.specs.Code.Search.{leaves_centre, range_number, bad_after, bad_of}
+use Rattle.table.specs.Code.Search.{leaves_centre, range_rule, bad_after, bad_of}
 use Rattle.table.specs.File.{rest, number, numbers, masks_rules}
 use Rattle.table.specs.Mask.{position_count, centre, valid_mask}
 use Rattle.table.specs.Number.{number_rules}
 use Rattle.table.specs.Record.{bad_place}
 use Rattle.table.proofs.Places.{bad_first, bad_next, bad_within, bad_past}
 use Rattle.table.proofs.Positions.{mask_lt}
-use Rattle.verdict.specs.declared.Verdict.{Verdict}
-use Rattle.verdict.specs.declared.Verdict.TheVariants.{Accepted}
-use Rattle.verdict.specs.Rules.{refuse_if, judge}
+use Rattle.verdict.specs.Rules.{refuse_if, judge, Verdict}
 use Rattle.verdict.proofs.Rules.{judge_accepted, refuse_if_accepted}
 
 module _ (h : List ℕ) (n m k : ℕ) (l : k < m) where
@@ -70,18 +68,18 @@ bad_number kind h n m (suc k) l i =
     again = omega arith
 
 pub masks_rules_lem : (kind : Kind) (h : List ℕ) (p n m : ℕ) → n ≤ m
-    → judge (masks_rules h p n (bad_of kind (numbers h n m)) (range_number kind)) ≡ masks_judged kind h p n
+    → judge (masks_rules h p n (bad_of kind (numbers h n m)) (range_rule kind)) ≡ masks_judged kind h p n
 masks_rules_lem kind h p n m l =
     ap (λ (ls : List (List Verdict)). judge (join ls)) (map_ext _ _ (up_to n)
-    (λ k i. ap (λ (b : Bool). number_rules (p + k) (rest h k) ++ refuse_if b (range_number kind) (p + k) ∷ []) (bad_number kind h n m k l (up_to_elim n i))))
+    (λ k i. ap (λ (b : Bool). number_rules (p + k) (rest h k) ++ refuse_if b (range_rule kind) (p + k) ∷ []) (bad_number kind h n m k l (up_to_elim n i))))
 
-module _ (kind : Kind) (h : List ℕ) (p n : ℕ) (e : masks_judged kind h p n ≡ Accepted) (k : ℕ) (i : k < n) where
+module _ (kind : Kind) (h : List ℕ) (p n : ℕ) (e : masks_judged kind h p n ≡ Ok tt) (k : ℕ) (i : k < n) where
   pub mask_good : bad_after kind (before h k) (number h k) ≡ false
   mask_good =
-      refuse_if_accepted (bad_after kind (before h k) (number h k)) (range_number kind) (p + k)
+      refuse_if_accepted (bad_after kind (before h k) (number h k)) (range_rule kind) (p + k)
       (judge_accepted e
       (join_intro (Memᴰ.append_right (number_rules (p + k) (rest h k)) (Memᴰ.head refl))
-      (map_intro (λ j. number_rules (p + j) (rest h j) ++ refuse_if (bad_after kind (before h j) (number h j)) (range_number kind) (p + j) ∷ []) (up_to_intro i))))
+      (map_intro (λ j. number_rules (p + j) (rest h j) ++ refuse_if (bad_after kind (before h j) (number h j)) (range_rule kind) (p + j) ∷ []) (up_to_intro i))))
 
   pub mask_in_range : number h k < 2 ^ position_count
   unfolding bad_after
@@ -89,8 +87,8 @@ module _ (kind : Kind) (h : List ℕ) (p n : ℕ) (e : masks_judged kind h p n �
       let valid-rising = or_none_right (leaves_centre kind && bit (number h k) centre) (not (valid_mask (number h k)) || leb (number h k) (before h k)) mask_good in
       mask_lt (number h k) (not-false (valid_mask (number h k)) (or_none_left (not (valid_mask (number h k))) (leb (number h k) (before h k)) valid-rising))
 
-pub numbers_good : (kind : Kind) (h : List ℕ) (p n m : ℕ) → n ≤ m → masks_judged kind h p n ≡ Accepted
-    → first (bad_place (numbers h n m) n (bad_of kind (numbers h n m))) m ≡ none
+pub numbers_good : (kind : Kind) (h : List ℕ) (p n m : ℕ) → n ≤ m → masks_judged kind h p n ≡ Ok tt
+    → first (bad_place (numbers h n m) n (bad_of kind (numbers h n m))) m ≡ None
 numbers_good kind h p n m l e = first_none (bad_place (numbers h n m) n (bad_of kind (numbers h n m))) m (λ k i. step k i (lt_or_le k n))
   where
     step : (k : ℕ) → k < m → (k < n) ⊎ (n ≤ k) → bad_place (numbers h n m) n (bad_of kind (numbers h n m)) k ≡ false

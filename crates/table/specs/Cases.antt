@@ -9,35 +9,27 @@ use Rattle.table.specs.declared.Table.{Table}
 use Rattle.table.specs.File.{table_of, file_verdict, table_bytes}
 use Rattle.table.specs.Record.{record_verdict}
 use Rattle.table.specs.Sample.{filled, listed}
-use Rattle.verdict.specs.declared.Verdict.{Verdict}
-use Rattle.verdict.specs.declared.Verdict.TheVariants.{Accepted, Refused}
-use Rattle.verdict.specs.Rules.{witnessed, refusal}
+use Rattle.verdict.specs.Answers.{accepted, refused, refused_for, Said, said}
 
 -- a record with these elements and one persistent element
 abbrev of : List ℕ → ℕ → Table
 of es K = listed es (K ∷ [])
 
-abbrev refused : ℕ → ℕ → Verdict
-refused n p = Refused (refusal n p)
-
-abbrev refused_for : ℕ → ℕ → ℕ → ℕ → Verdict
-refused_for n p a b = Refused (witnessed n p a b)
-
-abbrev pub records : List (Table × Verdict)
+abbrev pub records : List (Table × Said)
 records =
     -- the four neighbours, two side by side
-    (of (141440 ∷ []) 12288, Accepted)
+    (of (141440 ∷ []) 12288, accepted)
     -- elements rise strictly
     ∷ (of (141440 ∷ 141440 ∷ []) 12288, refused 4 2)
     -- a bad element speaks before a bad persistent element, and that before disjoint elements
     ∷ (of (4096 ∷ []) 0, refused 4 1)
     ∷ (of (2048 ∷ 8192 ∷ []) 0, refused 6 3)
     -- left and right: two side by side are persistent
-    ∷ (of (10240 ∷ []) 12288, Accepted)
+    ∷ (of (10240 ∷ []) 12288, accepted)
     -- a place past the count is zero
     ∷ (filled 1 (141440 ∷ 0 ∷ 0 ∷ 9 ∷ []) 1 (12288 ∷ []), refused 4 4)
     -- one to four persistent elements; an element speaks before their number, and that before themselves
-    ∷ (of (469440 ∷ []) 405504, Accepted)
+    ∷ (of (469440 ∷ []) 405504, accepted)
     ∷ (filled 1 (469440 ∷ []) 0 (405504 ∷ []), refused 18 2)
     ∷ (filled 1 (469440 ∷ []) 5 (1 ∷ 2 ∷ 3 ∷ 4 ∷ []), refused 18 2)
     ∷ (filled 1 (4096 ∷ []) 0 [], refused 4 1)
@@ -51,12 +43,12 @@ records =
     ∷ (filled 1 (141440 ∷ []) 2 (12288 ∷ 12288 ∷ []), refused 6 4)
     ∷ (filled 1 (141440 ∷ []) 2 (12288 ∷ 135168 ∷ 135169 ∷ []), refused 6 5)
     ∷ (filled 1 (141440 ∷ []) 3 (12288 ∷ 135168 ∷ 33554432 ∷ []), refused 6 5)
-    ∷ (filled 1 (141440 ∷ []) 4 (6144 ∷ 12288 ∷ 135168 ∷ 405504 ∷ []), Accepted)
+    ∷ (filled 1 (141440 ∷ []) 4 (6144 ∷ 12288 ∷ 135168 ∷ 405504 ∷ []), accepted)
     -- their range speaks before disjoint elements
     ∷ (filled 2 (2048 ∷ 8192 ∷ []) 2 (12288 ∷ 12288 ∷ []), refused 6 5)
     ∷ []
 
-abbrev pub files : List (List ℕ × Verdict)
+abbrev pub files : List (List ℕ × Said)
 files =
     -- a fourth group with bit 7 set, at the end of the bytes too; three groups are an end within the number
     (0x80 ∷ 0x80 ∷ 0x80 ∷ 0x80 ∷ [], refused 2 0)
@@ -91,13 +83,13 @@ files =
     -- then 8, before 5 too
     ∷ (0x00 ∷ 0x01 ∷ 0x80 ∷ 0xD1 ∷ 0x08 ∷ 0x02 ∷ 0x80 ∷ 0x60 ∷ 0x80 ∷ 0xA0 ∷ 0x08 ∷ 0x00 ∷ [], refused 8 5)
     ∷ (0x00 ∷ 0x02 ∷ 0x80 ∷ 0x10 ∷ 0x80 ∷ 0x40 ∷ 0x02 ∷ 0x80 ∷ 0x60 ∷ 0x80 ∷ 0xA0 ∷ 0x08 ∷ 0x00 ∷ [], refused 8 6)
-    ∷ (0x00 ∷ 0x01 ∷ 0x80 ∷ 0xD1 ∷ 0x08 ∷ 0x02 ∷ 0x80 ∷ 0x60 ∷ 0x80 ∷ 0xA0 ∷ 0x08 ∷ [], Accepted)
+    ∷ (0x00 ∷ 0x01 ∷ 0x80 ∷ 0xD1 ∷ 0x08 ∷ 0x02 ∷ 0x80 ∷ 0x60 ∷ 0x80 ∷ 0xA0 ∷ 0x08 ∷ [], accepted)
     -- a file of the form with one has one
-    ∷ (0x01 ∷ 0xC0 ∷ 0xD3 ∷ 0x1C ∷ 0x80 ∷ 0xE0 ∷ 0x18 ∷ [], Accepted)
+    ∷ (0x01 ∷ 0xC0 ∷ 0xD3 ∷ 0x1C ∷ 0x80 ∷ 0xE0 ∷ 0x18 ∷ [], accepted)
     ∷ []
 
 -- tables that 5 or 7 refuses, as record and as file, with witness and position (02, T-07)
-abbrev pub unrelated : List (Table × List ℕ × Verdict)
+abbrev pub unrelated : List (Table × List ℕ × Said)
 unrelated =
     -- disjoint elements speak before a persistent element that is none
     (listed (2048 ∷ 8192 ∷ []) (12288 ∷ []), 0x02 ∷ 0x80 ∷ 0x10 ∷ 0x80 ∷ 0x40 ∷ 0x80 ∷ 0x60 ∷ [], refused_for 5 2 1 0)
@@ -165,7 +157,7 @@ whole =
     ∷ []
 
 pub record Cases : Type 0 where
-  pub records_met : map (λ c. record_verdict c.0) records ≡ map (λ c. c.1) records
-  pub files_met : map (λ c. file_verdict c.0) files ≡ map (λ c. c.1) files
-  pub unrelated_met : (map (λ c. record_verdict c.0) unrelated ≡ map (λ c. c.2) unrelated) × (map (λ c. file_verdict c.1) unrelated ≡ map (λ c. c.2) unrelated)
+  pub records_met : map (λ c. said (record_verdict c.0)) records ≡ map (λ c. c.1) records
+  pub files_met : map (λ c. said (file_verdict c.0)) files ≡ map (λ c. c.1) files
+  pub unrelated_met : (map (λ c. said (record_verdict c.0)) unrelated ≡ map (λ c. c.2) unrelated) × (map (λ c. said (file_verdict c.1)) unrelated ≡ map (λ c. c.2) unrelated)
   pub whole_met : (map (λ c. table_of c.0) whole ≡ map (λ c. c.1) whole) × (map (λ c. table_bytes c.1) whole ≡ map (λ c. c.0) whole)

@@ -11,28 +11,28 @@
 --     numbers h n m     the first n numbers of h, in m places, of which the others are 0
 --     table_of f         the record that the file's numbers make
 --     bytes_left f       rule 8
---     masks_rules h p n bad i    the rules on n masks, number by number from place p on: 1, 2, and i where `bad` holds
+--     masks_rules h p n bad x    the rules on n masks, number by number from place p on: 1, 2, and x where `bad` holds
 --     count_rules f, elements_rules f, ranks_rules f, persistents_rules f, last_rules f    the rules on the numbers of a file, part by part; 8, 5, 7
 --     file_parts f       all of them, in their order
 --     file_verdict f     accepted, or number and place
---     read_table f       the reader's answer: a zero record where it is refused; read_as v t: by its verdict
+--     read_table f       the reader's answer
+--     record_of a        its record, zero where the file is refused
 --     if_several t n     the number n, in a file of several persistent elements
 --     masks_bytes ms     masks, one after the other
 --     table_bytes t      the file of a record
 --     table_verdict t n, written_table t n, table_output t out    the writer on n bytes of output
 -- Assumes nothing.
-use Rattle.std.specs.Prelude.{Bool, not, cond, List, [], ◌∷◌, ◌++◌, map, ℕ, zero, suc, ◌+◌, ltb, eqb, length, drop}
+use Rattle.std.specs.Prelude.{Bool, not, cond, List, [], ◌∷◌, ◌++◌, map, ℕ, zero, suc, ◌+◌, ltb, eqb, length, drop, Result, Ok, Err}
 use Rattle.seq.specs.Lists.{one, join}
 use Rattle.seq.specs.Tab.{tab, up_to}
 use Rattle.table.specs.declared.Table.{Table}
-use Rattle.table.specs.declared.TableRead.{TableRead}
 use Rattle.table.specs.Number.{size, value, number_rules, number_bytes}
-use Rattle.table.specs.Record.{max_elements, max_ranks, masks, persistents, zero_table, bad_ranks, bad_element, bad_persistent, count_rule, meet_rule, persist_rule, record_verdict}
-use Rattle.verdict.specs.declared.Verdict.{Verdict}
-use Rattle.verdict.specs.declared.Verdict.TheVariants.{Accepted, Refused}
-use Rattle.verdict.specs.declared.Written.{Written}
-use Rattle.verdict.specs.Rules.{refuse_if, or_else, judge}
-use Rattle.verdict.specs.Writer.{written_of, output_of}
+use Rattle.table.specs.Record.{max_elements, max_ranks, masks, persistents, bad_ranks, bad_element, bad_persistent, count_rule, meet_rule, persist_rule, record_verdict, zero_table}
+use Rattle.verdict.specs.declared.Refusal.{Refusal}
+use Rattle.verdict.specs.declared.Rule.{Rule}
+use Rattle.verdict.specs.Rules.{refuse_if, or_else, judge, Verdict, result_of}
+use Rattle.verdict.specs.Writer.{written_of, output_of, Written}
+use Rattle.verdict.specs.declared.Rule.TheVariants as why
 
 abbrev pub rest : List ℕ → ℕ → List ℕ
 rest h zero = h
@@ -86,27 +86,27 @@ table_of f =
 unfoldable pub bytes_left : List ℕ → Bool
 bytes_left f = not (eqb (length (left_bytes f)) 0)
 
-abbrev pub masks_rules : List ℕ → ℕ → ℕ → (ℕ → Bool) → ℕ → List Verdict
-masks_rules h p n bad i = join (map (λ k. number_rules (p + k) (rest h k) ++ refuse_if (bad k) i (p + k) ∷ []) (up_to n))
+abbrev pub masks_rules : List ℕ → ℕ → ℕ → (ℕ → Bool) → Rule → List Verdict
+masks_rules h p n bad x = join (map (λ k. number_rules (p + k) (rest h k) ++ refuse_if (bad k) x (p + k) ∷ []) (up_to n))
 
 abbrev pub count_rules : List ℕ → List Verdict
 count_rules f = number_rules 0 (body f) ++ count_rule (table_of f) ∷ []
 
 abbrev pub elements_rules : List ℕ → List Verdict
-elements_rules f = masks_rules (element_bytes f) 1 (element_count f) (bad_element (table_of f)) 4
+elements_rules f = masks_rules (element_bytes f) 1 (element_count f) (bad_element (table_of f)) why.ElementRange
 
 abbrev pub ranks_rules : List ℕ → List Verdict
 ranks_rules f =
     cond (several f)
-    (number_rules (element_count f + 1) (rank_bytes f) ++ refuse_if (bad_ranks 2 (rank_count f)) 18 (element_count f + 1) ∷ [])
+    (number_rules (element_count f + 1) (rank_bytes f) ++ refuse_if (bad_ranks 2 (rank_count f)) why.RankCount (element_count f + 1) ∷ [])
     []
 
 abbrev pub persistents_rules : List ℕ → List Verdict
-persistents_rules f = masks_rules (persistent_bytes f) (first_place f) (rank_count f) (bad_persistent (table_of f)) 6
+persistents_rules f = masks_rules (persistent_bytes f) (first_place f) (rank_count f) (bad_persistent (table_of f)) why.PersistentRange
 
 abbrev pub last_rules : List ℕ → List Verdict
 last_rules f =
-    refuse_if (bytes_left f) 8 (first_place f + rank_count f)
+    refuse_if (bytes_left f) why.BytesLeft (first_place f + rank_count f)
     ∷ meet_rule (table_of f)
     ∷ persist_rule (table_of f)
     ∷ []
@@ -125,12 +125,12 @@ file_parts f =
 unfoldable pub file_verdict : List ℕ → Verdict
 file_verdict f = judge (join (file_parts f))
 
-abbrev pub read_as : Verdict → Table → TableRead
-read_as Accepted t = record { verdict = Accepted; table = t }
-read_as (Refused r) t = record { verdict = Refused r; table = zero_table }
+unfoldable pub read_table : List ℕ → Result Table Refusal
+read_table f = result_of (file_verdict f) (table_of f)
 
-unfoldable pub read_table : List ℕ → TableRead
-read_table f = read_as (file_verdict f) (table_of f)
+abbrev pub record_of : Result Table Refusal → Table
+record_of (Ok t) = t
+record_of (Err r) = zero_table
 
 abbrev pub if_several : Table → ℕ → List ℕ
 if_several t n = cond (eqb t.ranks 1) [] (number_bytes n)
@@ -142,7 +142,7 @@ unfoldable pub table_bytes : Table → List ℕ
 table_bytes t = if_several t 0 ++ number_bytes t.count ++ masks_bytes (masks t) ++ if_several t t.ranks ++ masks_bytes (persistents t)
 
 unfoldable pub table_verdict : Table → ℕ → Verdict
-table_verdict t n = or_else (record_verdict t) (refuse_if (ltb n (length (table_bytes t))) 13 0)
+table_verdict t n = or_else (record_verdict t) (refuse_if (ltb n (length (table_bytes t))) why.AreaShort 0)
 
 unfoldable pub written_table : Table → ℕ → Written
 written_table t n = written_of (table_verdict t n) (table_bytes t)

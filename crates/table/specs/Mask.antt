@@ -11,10 +11,9 @@
 --     unpartnered K e     the lowest position of K that has no partner in e
 --     persistent_for K e   K is persistent for the element e (000, Proposition 6.8)
 -- Assumes nothing.
-use Rattle.std.specs.Prelude.{Bool, not, ◌&&◌, List, ℕ, ◌+◌, ◌-◌, ◌*◌, ◌/◌, ◌%◌, leb}
-use Rattle.std.proofs.Math.Option.{Option}
+use Rattle.std.specs.Prelude.{Bool, not, ◌&&◌, List, ℕ, ◌+◌, ◌-◌, ◌*◌, ◌/◌, ◌%◌, leb, Option, is_some}
 use Rattle.seq.specs.Bits.{bit, bits_of}
-use Rattle.seq.specs.Lists.{any, is_some}
+use Rattle.seq.specs.Lists.{any}
 use Rattle.seq.specs.Tab.{first}
 
 abbrev pub position_count : ℕ

@@ -14,8 +14,8 @@
 use Rattle.std.specs.Prelude.{Bool, cond, ◌&&◌, List, [], ◌∷◌, ℕ, suc, ◌+◌, ◌*◌, ◌/◌, ◌%◌, ◌^◌, leb, ltb, eqb, length, get_or, take}
 use Rattle.seq.specs.Lists.{one}
 use Rattle.seq.specs.Tab.{tab}
-use Rattle.verdict.specs.declared.Verdict.{Verdict}
-use Rattle.verdict.specs.Rules.{refuse_if}
+use Rattle.verdict.specs.Rules.{refuse_if, Verdict}
+use Rattle.verdict.specs.declared.Rule.TheVariants as why
 
 abbrev pub run : List ℕ → ℕ
 run [] = 0
@@ -45,9 +45,9 @@ not_fewest bytes = leb 1 (more bytes) && eqb (get_or bytes (more bytes) 0) 0
 
 abbrev pub number_rules : ℕ → List ℕ → List Verdict
 number_rules place bytes =
-    refuse_if (ends bytes) 1 place
-    ∷ refuse_if (too_long bytes) 2 place
-    ∷ refuse_if (not_fewest bytes) 2 place
+    refuse_if (ends bytes) why.NumberEnds place
+    ∷ refuse_if (too_long bytes) why.NumberForm place
+    ∷ refuse_if (not_fewest bytes) why.NumberForm place
     ∷ []
 
 unfoldable pub group_count : ℕ → ℕ

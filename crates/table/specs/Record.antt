@@ -21,17 +21,14 @@
 --     record_rules t       the rules, in their order
 --     record_verdict t     accepted, or number and place
 -- Assumes nothing.
-use Rattle.std.specs.Prelude.{Bool, not, cond, ◌&&◌, ◌||◌, List, [], ◌∷◌, ℕ, suc, ◌+◌, ◌-◌, leb, ltb, eqb, get_or, take, replicate}
-use Rattle.std.proofs.Math.Option
-use Rattle.std.proofs.Math.Option.{Option, map}
+use Rattle.std.specs.Prelude.{Bool, not, cond, ◌&&◌, ◌||◌, List, [], ◌∷◌, ℕ, suc, ◌+◌, ◌-◌, leb, ltb, eqb, get_or, take, replicate, Option, option_map, is_some, unwrap_or}
 use Rattle.seq.specs.Bits.{bit}
-use Rattle.seq.specs.Lists.{is_some}
 use Rattle.seq.specs.Tab.{first}
 use Rattle.table.specs.declared.Table.{Table}
 use Rattle.table.specs.Mask.{centre, valid_mask, meets, unpartnered, persistent_for}
 use Rattle.verdict.specs.declared.Refusal.{Refusal}
-use Rattle.verdict.specs.declared.Verdict.{Verdict}
-use Rattle.verdict.specs.Rules.{witnessed, refuse_if, refuse_by, refuse_at, judge}
+use Rattle.verdict.specs.Rules.{witnessed, refuse_if, refuse_by, refuse_at, judge, Verdict}
+use Rattle.verdict.specs.declared.Rule.TheVariants as why
 
 abbrev pub max_elements : ℕ
 max_elements = 64
@@ -82,31 +79,31 @@ unfoldable pub missed_by : Table → ℕ → Option ℕ
 missed_by t k = first (λ r. not (persistent_for (persistent_at t r) (element t k))) t.ranks
 
 abbrev pub from_one : Option ℕ → ℕ
-from_one o = Option.get_or (map suc o) 0
+from_one o = unwrap_or (option_map suc o) 0
 
 unfoldable pub missed_at : Table → ℕ → ℕ
-missed_at t k = Option.get_or (unpartnered (persistent_at t (Option.get_or (missed_by t k) 0)) (element t k)) 0
+missed_at t k = unwrap_or (unpartnered (persistent_at t (unwrap_or (missed_by t k) 0)) (element t k)) 0
 
 abbrev pub apart_refusal : Table → ℕ → Refusal
-apart_refusal t k = witnessed 5 (suc k) (from_one (disjoint_from t k)) 0
+apart_refusal t k = witnessed why.ElementsDisjoint (suc k) (from_one (disjoint_from t k)) 0
 
 abbrev pub missed_refusal : Table → ℕ → Refusal
-missed_refusal t k = witnessed 7 (suc k) (from_one (missed_by t k)) (missed_at t k)
+missed_refusal t k = witnessed why.NotPersistent (suc k) (from_one (missed_by t k)) (missed_at t k)
 
 unfoldable pub persistent_place : Table → ℕ → ℕ
 persistent_place t r = cond (eqb t.ranks 1 && eqb r 0) (t.count + 1) (t.count + 2 + r)
 
 abbrev pub count_rule : Table → Verdict
-count_rule t = refuse_if (bad_count t.count) 3 0
+count_rule t = refuse_if (bad_count t.count) why.ElementCount 0
 
 abbrev pub places_rule : Table → Verdict
-places_rule t = refuse_at (first (bad_place t.elements t.count (bad_element t)) max_elements) 4 suc
+places_rule t = refuse_at (first (bad_place t.elements t.count (bad_element t)) max_elements) why.ElementRange suc
 
 abbrev pub ranks_rule : Table → Verdict
-ranks_rule t = refuse_if (bad_ranks 1 t.ranks) 18 (t.count + 1)
+ranks_rule t = refuse_if (bad_ranks 1 t.ranks) why.RankCount (t.count + 1)
 
 abbrev pub persistent_rule : Table → Verdict
-persistent_rule t = refuse_at (first (bad_place t.persistents t.ranks (bad_persistent t)) max_ranks) 6 (persistent_place t)
+persistent_rule t = refuse_at (first (bad_place t.persistents t.ranks (bad_persistent t)) max_ranks) why.PersistentRange (persistent_place t)
 
 abbrev pub meet_rule : Table → Verdict
 meet_rule t = refuse_by (first (λ k. is_some (disjoint_from t k)) t.count) (apart_refusal t)

@@ -15,8 +15,10 @@ use Rattle.table.specs.File.{table_of, file_verdict}
 use Rattle.table.specs.Mask.{position_count, meets, partner, persistent_for}
 use Rattle.table.specs.Record.{element, persistent_at, record_verdict}
 use Rattle.verdict.specs.declared.Refusal.{Refusal}
+use Rattle.verdict.specs.declared.Rule.{Rule}
 use Rattle.verdict.specs.Numbers.{Says, among}
-use Rattle.verdict.specs.Rules.{witnessed, refusal}
+use Rattle.verdict.specs.Rules.{witnessed, number, refusal, number_of}
+use Rattle.verdict.specs.declared.Rule.TheVariants as why
 
 abbrev pub element_no : Table → ℕ → ℕ
 element_no t i = element t (i - 1)
@@ -39,16 +41,16 @@ pub record Missed (t : Table) (i r n : ℕ) : Type 0 where
   pub lowest_element : (k s : ℕ) → 1 ≤ k → k < i → 1 ≤ s → s ≤ t.ranks → persistent_for (persistent_no t s) (element_no t k) ≡ true
 
 pub data Neither : Refusal → Type 0 where
-  zeros : {n p : ℕ} → among (5 ∷ 7 ∷ []) n ≡ false → Neither (refusal n p)
+  zeros : {n : Rule} {p : ℕ} → among (5 ∷ 7 ∷ []) (number n) ≡ false → Neither (refusal n p)
 
 pub data Witness (t : Table) : Refusal → Type 0 where
-  apart : {i j : ℕ} → Apart t i j → Witness t (witnessed 5 i j 0)
-  missed : {i r n : ℕ} → Missed t i r n → Witness t (witnessed 7 i r n)
+  apart : {i j : ℕ} → Apart t i j → Witness t (witnessed why.ElementsDisjoint i j 0)
+  missed : {i r n : ℕ} → Missed t i r n → Witness t (witnessed why.NotPersistent i r n)
   neither : {x : Refusal} → Neither x → Witness t x
 
 pub record Witnesses : Type 0 where
   pub of_record : (t : Table) → Says (Witness t) (record_verdict t)
   pub of_file : (f : List ℕ) → Says (Witness (table_of f)) (file_verdict f)
-  pub by_5 : {t : Table} {x : Refusal} → Witness t x → x.number ≡ 5 → Apart t x.place x.witness × (x.position ≡ 0)
-  pub by_7 : {t : Table} {x : Refusal} → Witness t x → x.number ≡ 7 → Missed t x.place x.witness x.position
-  pub by_others : {t : Table} {x : Refusal} → Witness t x → among (5 ∷ 7 ∷ []) x.number ≡ false → (x.witness ≡ 0) × (x.position ≡ 0)
+  pub by_5 : {t : Table} {x : Refusal} → Witness t x → number_of x ≡ 5 → Apart t x.place x.witness × (x.position ≡ 0)
+  pub by_7 : {t : Table} {x : Refusal} → Witness t x → number_of x ≡ 7 → Missed t x.place x.witness x.position
+  pub by_others : {t : Table} {x : Refusal} → Witness t x → among (5 ∷ 7 ∷ []) (number_of x) ≡ false → (x.witness ≡ 0) × (x.position ≡ 0)

@@ -8,20 +8,22 @@
 ghost use Rattle.std.specs.Prelude.{not, ◌&&◌, ◌≡◌, ℕ, ◌<◌, ◌^◌};
 ghost use Rattle.seq.specs.Bits.{bit};
 ghost use Rattle.table.specs.Mask.{position_count, centre, valid_mask, sum_inside, sum, partner, unpartnered};
-ghost use Rattle.table.specs.Code.Search.{found, leaves_centre, range_number, bad_after};
+ghost use Rattle.table.specs.Code.Search.{leaves_centre, range_rule, bad_after};
 
-// What a search answers: the lowest that it looked for.
-#[derive(Clone, Copy)]
-pub(crate) enum Search {
-    Found(usize),
-    Nothing,
-}
+use verdict::Rule;
 
 // Which of a table's masks: structuring elements leave the centre out, persistent elements need not.
 #[derive(Clone, Copy)]
 pub(crate) enum Kind {
     Element,
     Persistent,
+}
+
+// A mask with no bit above position 24: of a persistent element, or of an element.
+#[derive(Clone, Copy)]
+pub(crate) struct Positions {
+    pub(crate) mask: u32,
+    ghost within: { mask < 2 ^ position_count },
 }
 
 const SIDE: usize = 5;
@@ -53,13 +55,13 @@ pub fn is_valid(mask: u32) -> bool
     1 <= mask && mask <= LARGEST_MASK
 }
 
-// The number of the rule on such a mask, 4 or 6.
-pub(crate) fn range_number(kind: Kind) -> u32
-    ensures { result ≡ range_number kind }
+// The rule on such a mask, 4 or 6.
+pub(crate) fn range_rule(kind: Kind) -> Rule
+    ensures { result ≡ range_rule kind }
 {
     match kind {
-        Kind::Element => verdict::ELEMENT_RANGE,
-        Kind::Persistent => verdict::PERSISTENT_RANGE,
+        Kind::Element => Rule::ElementRange,
+        Kind::Persistent => Rule::PersistentRange,
     }
 }
 
@@ -67,13 +69,7 @@ pub(crate) fn range_number(kind: Kind) -> u32
 pub(crate) fn is_bad_after(kind: Kind, before: u32, mask: u32) -> bool
     ensures { result ≡ bad_after kind before mask }
 {
-    if is_barred(kind, mask) {
-        return true;
-    }
-    if !is_valid(mask) {
-        return true;
-    }
-    mask <= before
+    is_barred(kind, mask) || !is_valid(mask) || mask <= before
 }
 
 // An element with the centre.
@@ -86,32 +82,26 @@ fn is_barred(kind: Kind, mask: u32) -> bool
     }
 }
 
-// The lowest position of the persistent element that has no partner in the element.
-pub(crate) fn lowest_unpartnered(persistent: u32, element: u32) -> Search
-    requires { (persistent < 2 ^ position_count) × (element < 2 ^ position_count) }
-    ensures { found result ≡ unpartnered persistent element }
-{
-    let mut b = 0;
-    while b < POSITIONS {
-        if lacks_partner(persistent, element, b) {
-            return Search::Found(b);
-        }
-        b += 1;
+impl Positions {
+    // The lowest position of the persistent element that has no partner in the element.
+    pub(crate) fn lowest_unpartnered(self, element: Positions) -> Option<usize>
+        ensures { result ≡ unpartnered self.mask element.mask }
+    {
+        (0..POSITIONS).find(|b| self.lacks_partner(element, *b))
     }
-    Search::Nothing
-}
 
-fn lacks_partner(persistent: u32, element: u32, b: usize) -> bool
-    requires { (persistent < 2 ^ position_count) × (element < 2 ^ position_count) × (b < position_count) }
-    ensures { result ≡ (bit persistent b && not (partner persistent element b)) }
-{
-    (persistent >> b) % 2 == 1 && (element as u64) & partners(persistent, b) == 0
-}
+    fn lacks_partner(self, element: Positions, b: usize) -> bool
+        requires { b < position_count }
+        ensures { result ≡ (bit self.mask b && not (partner self.mask element.mask b)) }
+    {
+        (self.mask >> b) % 2 == 1 && (element.mask as u64) & self.partners(b) == 0
+    }
 
-// The offsets a with b + a in the persistent element: all of it moved by -b, without what would leave the window at a side.
-fn partners(persistent: u32, b: usize) -> u64
-    requires { (persistent < 2 ^ position_count) × (b < position_count) }
-    ensures { (a : ℕ) → a < position_count → bit result a ≡ (sum_inside b a && bit persistent (sum b a)) }
-{
-    (((persistent as u64) << CENTRE) >> b) & COLUMNS[b % SIDE]
+    // The offsets a with b + a in the persistent element: all of it moved by -b, without what would leave the window at a side.
+    fn partners(self, b: usize) -> u64
+        requires { b < position_count }
+        ensures { (a : ℕ) → a < position_count → bit result a ≡ (sum_inside b a && bit self.mask (sum b a)) }
+    {
+        (((self.mask as u64) << CENTRE) >> b) & COLUMNS[b % SIDE]
+    }
 }

@@ -5,14 +5,16 @@ ghost use Rattle.seq.specs.Lists.{one};
 ghost use Rattle.table.specs.Code.Cursor.{number_at};
 ghost use Rattle.table.specs.Number.{more, groups, group_count, number_bytes};
 
-// What reading finds: the number and the position past it, or the refusal's number, 1 or 2.
+use verdict::Rule;
+
+// What reading finds: the number, and the position past it.
 #[derive(Clone, Copy)]
-pub enum NumberRead {
-    Number(u32, usize),
-    Refused(u32),
+pub struct Number {
+    pub value: u32,
+    pub past: usize,
 }
 
-// The reader of seven-bit groups: the bytes, borrowed, and its position.
+// The reader of seven-bit groups: the bytes, borrowed, and its position. It is thin, over functions on slice and position: 01 names the form.
 #[derive(Clone, Copy)]
 pub struct Reader<'a> {
     pub src: &'a [u8],
@@ -38,8 +40,8 @@ impl<'a> Reader<'a> {
         Reader { src, at }
     }
 
-    // The number at the reader's position.
-    pub fn next(self) -> NumberRead
+    // The number at the reader's position, or the rule that refuses it, 1 or 2.
+    pub fn next(self) -> Result<Number, Rule>
         ensures { result ≡ number_at self.entry.src.now self.entry.at }
     {
         number_at(self.src, self.at)
@@ -47,31 +49,34 @@ impl<'a> Reader<'a> {
 }
 
 // The number at a position of the bytes, through the reader. Its contract says nothing of the reader.
-pub fn read_at(bytes: &[u8], at: usize) -> NumberRead
+pub fn read_at(bytes: &[u8], at: usize) -> Result<Number, Rule>
     ensures { result ≡ number_at bytes.now at }
 {
     Reader::new(bytes, at).next()
 }
 
 // The number that starts at a position of the bytes.
-fn number_at(bytes: &[u8], at: usize) -> NumberRead
+fn number_at(bytes: &[u8], at: usize) -> Result<Number, Rule>
     ensures { result ≡ number_at bytes.now at }
 {
     if bytes.len() <= at {
-        return NumberRead::Refused(verdict::NUMBER_ENDS);
+        return Err(Rule::NumberEnds);
     }
     let more = more_at(bytes, at);
     if MAX_GROUPS <= more {
-        return NumberRead::Refused(verdict::NUMBER_FORM);
+        return Err(Rule::NumberForm);
     }
     let last = at + more;
     if bytes.len() <= last {
-        return NumberRead::Refused(verdict::NUMBER_ENDS);
+        return Err(Rule::NumberEnds);
     }
     if 0 < more && bytes[last] == 0 {
-        return NumberRead::Refused(verdict::NUMBER_FORM);
+        return Err(Rule::NumberForm);
     }
-    NumberRead::Number(groups_at(bytes, at, more + 1), last + 1)
+    Ok(Number {
+        value: groups_at(bytes, at, more + 1),
+        past: last + 1,
+    })
 }
 
 // How many of the next four bytes, from the first on, have bit 7 set.
@@ -79,17 +84,11 @@ fn more_at(bytes: &[u8], at: usize) -> usize
     requires { at ≤ length bytes.now }
     ensures { result ≡ more (drop at bytes.now) }
 {
-    let mut i = 0;
-    while i < MAX_GROUPS {
-        if bytes.len() - at <= i {
-            return i;
-        }
-        if wide(bytes[at + i]) < GROUP {
-            return i;
-        }
-        i += 1;
-    }
-    i
+    bytes[at..]
+        .iter()
+        .take(MAX_GROUPS)
+        .take_while(|byte| GROUP <= u32::from(**byte))
+        .count()
 }
 
 // The value of n groups.
@@ -98,23 +97,15 @@ fn groups_at(bytes: &[u8], at: usize, n: usize) -> u32
     ensures { result ≡ groups (take n (drop at bytes.now)) }
 {
     let mut value = 0;
-    let mut left = n;
-    while 0 < left {
-        left -= 1;
-        value = value * GROUP + wide(bytes[at + left]) % GROUP;
+    for j in (0..n).rev() {
+        value = value * GROUP + u32::from(bytes[at + j]) % GROUP;
     }
     value
 }
 
-fn wide(byte: u8) -> u32
-    ensures { result ≡ byte }
-{
-    byte as u32
-}
-
 // How many groups a number needs.
 pub(crate) fn group_count(n: u32) -> usize
-    ensures { result ≡ group_count n }
+    ensures { (result ≡ group_count n) × (result ≤ 4) }
 {
     if n < TWO_GROUPS {
         return 1;
@@ -135,11 +126,9 @@ pub(crate) fn put_at(out: &mut [u8], at: usize, n: u32) -> usize
 {
     let count = group_count(n);
     let mut left = n;
-    let mut j = 0;
-    while j < count {
+    for j in 0..count {
         out[at + j] = group_byte(left, j + 1 < count);
-        left = left / GROUP;
-        j += 1;
+        left /= GROUP;
     }
     at + count
 }

@@ -1,192 +1,151 @@
 // The table file, read number by number: each by the rules 1 and 2 and its range rule, then 8, 5 and 7 (01, Refused because of the input).
-ghost use Rattle.verdict.specs.declared.Verdict.TheVariants as the-verdict;
-ghost use Rattle.std.specs.Prelude.{◌≡◌, ◌+◌, ◌≤◌, take, drop};
-ghost use Rattle.table.specs.Code.Reading.{read_from, MasksRead, CountRead, ElementsRead, RanksRead};
-ghost use Rattle.table.specs.Code.Search.{InRange};
-ghost use Rattle.table.specs.File.{several, body, read_as};
-ghost use Rattle.table.specs.Record.{max_elements, max_ranks, zero_table, meet_rule, persist_rule};
-ghost use Rattle.verdict.specs.Rules.{refusal, or_else};
+// Functions take file and position apart, and not a `Reader`: their contracts say of which of the file's bytes the position is, so the new form is no plainer.
+ghost use Rattle.std.specs.Prelude.{◌≡◌, ◌+◌, ◌≤◌, drop};
+ghost use Rattle.table.specs.Code.Reading.{Judged, NumberRead, FormRead, CountRead, RanksRead, MasksRead, masks_of};
+ghost use Rattle.table.specs.File.{several, body, element_count, rank_bytes, count_rules, ranks_rules, read_table};
+ghost use Rattle.table.specs.Number.{number_rules};
+ghost use Rattle.table.specs.Record.{max_elements};
 
 use crate::mask::Kind;
-use crate::number::NumberRead;
-use crate::{MAX_ELEMENTS, MAX_RANKS, Table, TableRead, mask, number, record};
-use verdict::{Refusal, Verdict};
+use crate::number::Number;
+use crate::record::Ranged;
+use crate::{MAX_ELEMENTS, MAX_RANKS, Table, mask, number, record};
+use verdict::{Refusal, Rule};
 
-// Masks of a file, and the position past them where they are accepted.
+// Where the element count stands, and whether the file has several persistent elements.
 #[derive(Clone, Copy)]
-struct Masks {
-    verdict: Verdict,
-    masks: [u32; MAX_ELEMENTS],
+struct Form {
+    has_several: bool,
     at: usize,
 }
 
-// A refused answer: all else is zero.
-pub(crate) fn refused(refusal: Refusal) -> TableRead
-    ensures { result ≡ read_as (the-verdict.Refused refusal) zero_table }
-{
-    TableRead {
-        verdict: Verdict::Refused(refusal),
-        table: Table {
-            count: 0,
-            elements: [0; MAX_ELEMENTS],
-            ranks: 0,
-            persistents: [0; MAX_RANKS],
-        },
-    }
+// How many persistent elements follow, and where: the position of the first and its place.
+#[derive(Clone, Copy)]
+struct Ranks {
+    count: usize,
+    at: usize,
+    place: usize,
 }
 
-// The same, by number and place.
-pub(crate) fn refused_at(number: u32, place: usize) -> TableRead
-    ensures { result ≡ read_as (the-verdict.Refused (refusal number place)) zero_table }
-{
-    refused(verdict::refusal_of(number, place))
+// Masks of a file in the places of a table, and the position past them.
+#[derive(Clone, Copy)]
+struct Masks<const N: usize> {
+    masks: [u32; N],
+    at: usize,
 }
 
-// The file from its element count on; `more` where it starts with 0, and so has several persistent elements.
-pub(crate) fn read_body(file: &[u8], at: usize, more: bool) -> TableRead
-    requires { (drop at file.now ≡ body file.now) × (more ≡ several file.now) }
-    ensures { result ≡ read_from 1 file.now }
+// The record of a file.
+pub(crate) fn read_file(file: &[u8]) -> Result<Table, Refusal>
+    ensures { result ≡ read_table file.now }
 {
-    match number::read_at(file, at) {
-        NumberRead::Refused(number) => refused_at(number, 0),
-        NumberRead::Number(count, past) => {
-            if record::is_bad_count(count as usize) {
-                return refused_at(verdict::ELEMENT_COUNT, 0);
-            }
-            read_counted(file, count as usize, past, more)
-        }
+    let form = read_form(file)?;
+    let number = read_count(file, form.at)?;
+    let count = number.value as usize;
+    let elements = read_masks::<MAX_ELEMENTS>(file, Kind::Element, number.past, 1, count)?;
+    let ranks = read_ranks(file, elements.at, form.has_several, count)?;
+    let persistents = read_masks::<MAX_RANKS>(
+        file,
+        Kind::Persistent,
+        ranks.at,
+        ranks.place,
+        ranks.count,
+    )?;
+    if persistents.at < file.len() {
+        return verdict::refused(Rule::BytesLeft, ranks.place + ranks.count);
     }
+    let element_masks = elements.masks;
+    let persistent_masks = persistents.masks;
+    let table = Table {
+        count,
+        elements: element_masks,
+        ranks: ranks.count,
+        persistents: persistent_masks,
+    };
+    Ranged { table }.relations()?;
+    Ok(table)
 }
 
-// The file behind its element count.
-fn read_counted(file: &[u8], count: usize, at: usize, more: bool) -> TableRead
-    requires { (CountRead file.now count at more) × (count ≤ max_elements) }
-    ensures { result ≡ read_from 2 file.now }
+// The number at a position, which has the place.
+fn numbered(file: &[u8], at: usize, place: usize) -> Result<Number, Refusal>
+    ensures { Judged result (number_rules place (drop at file.now)) (NumberRead file.now (drop at file.now)) }
 {
-    let got = read_masks(file, Kind::Element, at, 1, count);
-    let verdict = got.verdict;
-    let elements = got.masks;
-    let next = got.at;
-    match verdict {
-        Verdict::Refused(r) => refused(r),
-        Verdict::Accepted => read_ranks(file, count, elements, next, more),
+    number::read_at(file, at).map_err(|rule| verdict::refusal_of(rule, place))
+}
+
+// A file that starts with 0 has several persistent elements, and its element count behind that.
+fn read_form(file: &[u8]) -> Result<Form, Refusal>
+    ensures { Judged result (number_rules 0 file.now) (FormRead file.now) }
+{
+    let first = numbered(file, 0, 0)?;
+    if first.value == 0 {
+        return Ok(Form {
+            has_several: true,
+            at: first.past,
+        });
     }
+    Ok(Form {
+        has_several: false,
+        at: 0,
+    })
+}
+
+// The element count.
+fn read_count(file: &[u8], at: usize) -> Result<Number, Refusal>
+    requires { drop at file.now ≡ body file.now }
+    ensures { Judged result (count_rules file.now) (CountRead file.now) }
+{
+    let number = numbered(file, at, 0)?;
+    if record::is_bad_count(number.value as usize) {
+        return verdict::refused(Rule::ElementCount, 0);
+    }
+    Ok(number)
 }
 
 // Masks that stand at a position, the first at a place of the table.
-fn read_masks(file: &[u8], kind: Kind, at: usize, place: usize, count: usize) -> Masks
-    requires { (count ≤ max_elements) × (place ≤ max_elements + 2) }
-    ensures { MasksRead kind file.now at place count result.verdict result.masks result.at }
-{
-    let mut masks = [0u32; MAX_ELEMENTS];
-    let mut before = 0;
-    let mut next = at;
-    let mut k = 0;
-    while k < count {
-        match number::read_at(file, next) {
-            NumberRead::Refused(number) => {
-                return Masks {
-                    verdict: verdict::refused(number, place + k),
-                    masks,
-                    at: next,
-                };
-            }
-            NumberRead::Number(mask, past) => {
-                if mask::is_bad_after(kind, before, mask) {
-                    return Masks {
-                        verdict: verdict::refused(mask::range_number(kind), place + k),
-                        masks,
-                        at: next,
-                    };
-                }
-                masks[k] = mask;
-                before = mask;
-                next = past;
-            }
-        }
-        k += 1;
-    }
-    Masks {
-        verdict: Verdict::Accepted,
-        masks,
-        at: next,
-    }
-}
-
-// The file behind its elements: a single persistent element follows, or the number of several.
-fn read_ranks(
+fn read_masks<const N: usize>(
     file: &[u8],
-    count: usize,
-    elements: [u32; MAX_ELEMENTS],
-    at: usize,
-    more: bool,
-) -> TableRead
-    requires { ElementsRead file.now count elements at more }
-    ensures { result ≡ read_from 3 file.now }
-{
-    if !more {
-        return read_persistents(file, count, elements, 1, at, count + 1);
-    }
-    match number::read_at(file, at) {
-        NumberRead::Refused(number) => refused_at(number, count + 1),
-        NumberRead::Number(ranks, past) => {
-            if record::is_bad_ranks(2, ranks as usize) {
-                return refused_at(verdict::RANK_COUNT, count + 1);
-            }
-            read_persistents(file, count, elements, ranks as usize, past, count + 2)
-        }
-    }
-}
-
-// The file from its first persistent element on, which has the place.
-fn read_persistents(
-    file: &[u8],
-    count: usize,
-    elements: [u32; MAX_ELEMENTS],
-    ranks: usize,
+    kind: Kind,
     at: usize,
     place: usize,
-) -> TableRead
-    requires { RanksRead file.now count elements ranks at place }
-    ensures { result ≡ read_from 4 file.now }
+    count: usize,
+) -> Result<Masks<N>, Refusal>
+    requires { (count ≤ N) × (count ≤ max_elements) × (place ≤ max_elements + 2) }
+    ensures { Judged result (masks_of kind (drop at file.now) place count) (λ m. MasksRead file.now (drop at file.now) count N m.masks m.at) }
 {
-    let got = read_masks(file, Kind::Persistent, at, place, ranks);
-    let verdict = got.verdict;
-    let masks = got.masks;
-    let next = got.at;
-    match verdict {
-        Verdict::Refused(r) => refused(r),
-        Verdict::Accepted => {
-            if next < file.len() {
-                return refused_at(verdict::BYTES_LEFT, place + ranks);
-            }
-            related(Table {
-                count,
-                elements,
-                ranks,
-                persistents: first_ranks(masks),
-            })
+    let mut masks = [0u32; N];
+    let mut before = 0;
+    let mut next = at;
+    for k in 0..count {
+        let number = numbered(file, next, place + k)?;
+        if mask::is_bad_after(kind, before, number.value) {
+            return verdict::refused(mask::range_rule(kind), place + k);
         }
+        masks[k] = number.value;
+        before = number.value;
+        next = number.past;
     }
+    Ok(Masks { masks, at: next })
 }
 
-// The places of the persistent elements.
-fn first_ranks(masks: [u32; MAX_ELEMENTS]) -> [u32; MAX_RANKS]
-    ensures { result ≡ take max_ranks masks }
+// A single persistent element follows the elements, or the number of several, at count + 1.
+fn read_ranks(file: &[u8], at: usize, has_several: bool, count: usize) -> Result<Ranks, Refusal>
+    requires { (drop at file.now ≡ rank_bytes file.now) × (has_several ≡ several file.now) × (count ≡ element_count file.now) × (count ≤ max_elements) }
+    ensures { Judged result (ranks_rules file.now) (RanksRead file.now) }
 {
-    [masks[0], masks[1], masks[2], masks[3]]
-}
-
-// The record, after its rules 5 and 7.
-fn related(table: Table) -> TableRead
-    requires { InRange table }
-    ensures { result ≡ read_as (or_else (meet_rule table) (persist_rule table)) table }
-{
-    match record::relations(table) {
-        Verdict::Refused(r) => refused(r),
-        Verdict::Accepted => TableRead {
-            verdict: Verdict::Accepted,
-            table,
-        },
+    if !has_several {
+        return Ok(Ranks {
+            count: 1,
+            at,
+            place: count + 1,
+        });
     }
+    let number = numbered(file, at, count + 1)?;
+    if record::is_bad_ranks(2, number.value as usize) {
+        return verdict::refused(Rule::RankCount, count + 1);
+    }
+    Ok(Ranks {
+        count: number.value as usize,
+        at: number.past,
+        place: count + 2,
+    })
 }

@@ -1,19 +1,29 @@
 // The rules on a table record.
-ghost use Rattle.std.specs.Prelude.{◌≡◌, ℕ, ◌≤◌, ◌<◌, ◌^◌, length, get_or};
+ghost use Rattle.std.specs.Prelude.{◌≡◌, ℕ, ◌≤◌, ◌<◌, ◌^◌, length};
 ghost use Rattle.table.specs.Mask.{position_count};
-ghost use Rattle.table.specs.Record.{max_elements, max_ranks, element, bad_count, bad_ranks, bad_place, disjoint_from, persistent_place, meet_rule, persist_rule};
-ghost use Rattle.table.specs.Code.Search.{found, Misses, bad_of, lowest_bad, behind_elements, InRange};
+ghost use Rattle.table.specs.Record.{max_elements, max_ranks, element, persistent_at, bad_count, bad_ranks, bad_place, disjoint_from, persistent_place, meet_rule, persist_rule};
+ghost use Rattle.table.specs.Code.Search.{Misses, bad_of, lowest_bad, behind_elements};
 ghost use Rattle.verdict.specs.Rules.{or_else, judge};
 
-use crate::mask::{Kind, Search};
+use crate::mask::{Kind, Positions};
 use crate::{MAX_ELEMENTS, MAX_RANKS, Table, mask};
-use verdict::Verdict;
+use verdict::{Rule, Verdict};
 
 // Which persistent element misses an element, and its position without a partner.
 #[derive(Clone, Copy)]
-enum Miss {
-    At(usize, usize),
-    Nowhere,
+struct Miss {
+    rank: usize,
+    position: usize,
+}
+
+// A record with its counts and masks in range: no mask has a bit above position 24.
+#[derive(Clone, Copy)]
+pub(crate) struct Ranged {
+    pub(crate) table: Table,
+    ghost few: { table.count ≤ max_elements },
+    ghost few_ranks: { table.ranks ≤ max_ranks },
+    ghost element_lt: { (k : ℕ) → k < table.count → element table k < 2 ^ position_count },
+    ghost persistent_lt: { (r : ℕ) → r < table.ranks → persistent_at table r < 2 ^ position_count },
 }
 
 // Rule 3.
@@ -24,17 +34,10 @@ pub(crate) fn is_bad_count(count: usize) -> bool
 }
 
 // The lowest place that breaks its rule, 4 or 6: of these `count` hold masks of the kind, and the others are zero.
-pub(crate) fn first_bad(kind: Kind, masks: &[u32], count: usize) -> Search
-    ensures { found result ≡ lowest_bad kind masks.now count }
+pub(crate) fn first_bad(kind: Kind, masks: &[u32], count: usize) -> Option<usize>
+    ensures { result ≡ lowest_bad kind masks.now count }
 {
-    let mut k = 0;
-    while k < masks.len() {
-        if is_bad_place(kind, masks, count, k) {
-            return Search::Found(k);
-        }
-        k += 1;
-    }
-    Search::Nothing
+    (0..masks.len()).find(|k| is_bad_place(kind, masks, count, *k))
 }
 
 fn is_bad_place(kind: Kind, masks: &[u32], count: usize, k: usize) -> bool
@@ -56,12 +59,12 @@ pub(crate) fn check_persistents(table: Table) -> Verdict
     ensures { result ≡ judge (behind_elements table) }
 {
     if is_bad_ranks(1, table.ranks) {
-        return verdict::refused(verdict::RANK_COUNT, table.count + 1);
+        return verdict::refused(Rule::RankCount, table.count + 1);
     }
-    if let Search::Found(r) = first_bad(Kind::Persistent, &table.persistents, table.ranks) {
-        return verdict::refused(verdict::PERSISTENT_RANGE, persistent_place(table, r));
+    if let Some(r) = first_bad(Kind::Persistent, &table.persistents, table.ranks) {
+        return verdict::refused(Rule::PersistentRange, persistent_place(table, r));
     }
-    relations(table)
+    Ranged { table }.relations()
 }
 
 // Rule 18, where there are `least` or more.
@@ -82,75 +85,69 @@ fn persistent_place(table: Table, r: usize) -> usize
     table.count + 2 + r
 }
 
-// Rules 5 and 7, of a record whose masks are in range.
-pub(crate) fn relations(table: Table) -> Verdict
-    requires { InRange table }
-    ensures { result ≡ or_else (meet_rule table) (persist_rule table) }
-{
-    match check_meeting(table) {
-        Verdict::Refused(r) => Verdict::Refused(r),
-        Verdict::Accepted => check_persistence(table),
+impl Ranged {
+    // Rules 5 and 7.
+    pub(crate) fn relations(self) -> Verdict
+        ensures { result ≡ or_else (meet_rule self.table) (persist_rule self.table) }
+    {
+        self.check_meeting()?;
+        self.check_persistence()
     }
-}
 
-// Rule 5.
-fn check_meeting(table: Table) -> Verdict
-    requires { InRange table }
-    ensures { result ≡ meet_rule table }
-{
-    let mut k = 0;
-    while k < table.count {
-        if let Search::Found(j) = disjoint_from(table, k) {
-            return verdict::refused_for(verdict::ELEMENTS_DISJOINT, k + 1, j + 1, 0);
+    // Rule 5.
+    fn check_meeting(self) -> Verdict
+        ensures { result ≡ meet_rule self.table }
+    {
+        for k in 0..self.table.count {
+            if let Some(j) = self.disjoint_from(k) {
+                return verdict::refused_for(Rule::ElementsDisjoint, k + 1, j + 1, 0);
+            }
         }
-        k += 1;
+        Ok(())
     }
-    Verdict::Accepted
-}
 
-// The lowest earlier element that shares no position with element k.
-fn disjoint_from(table: Table, k: usize) -> Search
-    requires { (k < max_elements) × (get_or table.elements k 0 < 2 ^ position_count) }
-    ensures { found result ≡ disjoint_from table k }
-{
-    let element = table.elements[k];
-    let mut j = 0;
-    while j < k {
-        if element & table.elements[j] == 0 {
-            return Search::Found(j);
-        }
-        j += 1;
+    // The lowest earlier element that shares no position with element k.
+    fn disjoint_from(self, k: usize) -> Option<usize>
+        requires { k < self.table.count }
+        ensures { result ≡ disjoint_from self.table k }
+    {
+        let element = self.table.elements[k];
+        (0..k).find(|j| element & self.table.elements[*j] == 0)
     }
-    Search::Nothing
-}
 
-// Rule 7.
-fn check_persistence(table: Table) -> Verdict
-    requires { InRange table }
-    ensures { result ≡ persist_rule table }
-{
-    let mut k = 0;
-    while k < table.count {
-        if let Miss::At(r, b) = missed_by(table, k) {
-            return verdict::refused_for(verdict::NOT_PERSISTENT, k + 1, r + 1, b);
+    // Rule 7.
+    fn check_persistence(self) -> Verdict
+        ensures { result ≡ persist_rule self.table }
+    {
+        for k in 0..self.table.count {
+            if let Some(miss) = self.missed_by(k) {
+                return verdict::refused_for(
+                    Rule::NotPersistent,
+                    k + 1,
+                    miss.rank + 1,
+                    miss.position,
+                );
+            }
         }
-        k += 1;
+        Ok(())
     }
-    Verdict::Accepted
-}
 
-// The lowest of the persistent elements that is not persistent for element k, and its lowest position that has no partner there.
-fn missed_by(table: Table, k: usize) -> Miss
-    requires { (InRange table) × (k < table.count) }
-    ensures { Misses table k result }
-{
-    let element = table.elements[k];
-    let mut r = 0;
-    while r < table.ranks {
-        if let Search::Found(b) = mask::lowest_unpartnered(table.persistents[r], element) {
-            return Miss::At(r, b);
+    // The lowest of the persistent elements that is not persistent for element k, and its lowest position that has no partner there.
+    fn missed_by(self, k: usize) -> Option<Miss>
+        requires { k < self.table.count }
+        ensures { Misses self.table k result }
+    {
+        let element = Positions {
+            mask: self.table.elements[k],
+        };
+        for rank in 0..self.table.ranks {
+            let persistent = Positions {
+                mask: self.table.persistents[rank],
+            };
+            if let Some(position) = persistent.lowest_unpartnered(element) {
+                return Some(Miss { rank, position });
+            }
         }
-        r += 1;
+        None
     }
-    Miss::Nowhere
 }

@@ -1,25 +1,25 @@
-// The table file, written.
+// The table file, written. Output and position go from part to part: a struct of both would hold the lent slice, and each contract then say that it
+// is the same slice still.
 ghost use Rattle.std.specs.Prelude.{◌≡◌, ◌+◌, ◌*◌, ◌≤◌, length};
 ghost use Rattle.std.proofs.lemmas.List.Edits.{sets};
 ghost use Rattle.table.specs.File.{if_several, masks_bytes, table_bytes, written_table, table_output};
 ghost use Rattle.table.specs.Record.{max_elements, max_ranks, record_verdict};
-ghost use Rattle.verdict.specs.declared.Verdict.TheVariants.{Accepted};
 ghost use Rattle.verdict.specs.Writer.{over};
 
 use crate::{Table, number};
-use verdict::Written;
+use verdict::{Rule, Written};
 
 // A record that the check accepts.
 pub(crate) fn write_checked(table: Table, out: &mut [u8]) -> Written
-    requires { record_verdict table ≡ Accepted }
+    requires { record_verdict table ≡ Ok tt }
     ensures { (result ≡ written_table table (length out.old)) × (out.new ≡ table_output table out.old) }
 {
     let length = file_length(table);
     if out.len() < length {
-        return Written::Refused(verdict::refusal_of(verdict::AREA_SHORT, 0));
+        return verdict::refused(Rule::AreaShort, 0);
     }
     put_table(table, out);
-    Written::Length(length)
+    Ok(length)
 }
 
 fn file_length(table: Table) -> usize
@@ -49,13 +49,7 @@ fn masks_length(masks: &[u32]) -> usize
     requires { length masks.now ≤ max_elements }
     ensures { (result ≡ length (masks_bytes masks.now)) × (result ≤ 4 * max_elements) }
 {
-    let mut total = 0;
-    let mut k = 0;
-    while k < masks.len() {
-        total += number::group_count(masks[k]);
-        k += 1;
-    }
-    total
+    masks.iter().map(|mask| number::group_count(*mask)).sum()
 }
 
 fn put_table(table: Table, out: &mut [u8])
@@ -88,10 +82,8 @@ fn put_masks(masks: &[u32], out: &mut [u8], at: usize) -> usize
         × (out.new ≡ sets out.old at (masks_bytes masks.now)) }
 {
     let mut next = at;
-    let mut k = 0;
-    while k < masks.len() {
-        next = number::put_at(out, next, masks[k]);
-        k += 1;
+    for mask in masks {
+        next = number::put_at(out, next, *mask);
     }
     next
 }

@@ -1,98 +1,141 @@
-// Second implementation: the calls on a job, written from 01 (The job) for jobs that are not refused. Here the area that holds the image stands
-// first.
-use crate::bytes::AREA;
-use crate::grid::Size;
-use crate::sides::Side;
-use crate::{bytes, files, grid, parts, passes, sides};
-use history::Job;
+// Second implementation: the calls on a job, written from 01 (The job) for jobs that are not refused.
+ghost use Rattle.std.specs.Prelude.{◌<◌};
+
+use crate::area::{AREA, copy_to_front};
+use crate::images::Image;
+use crate::shapes::Shapes;
+use crate::side::{Answer, SECOND, Side, empty};
+use crate::{files, parts, passes};
+use history::{Effect, Figures, Job};
+use std::alloc::{AllocError, Global};
+use std::mem;
 use table::Table;
 
+// The stages of a record are numbers, since the C interface has the record.
 const LOADED: u8 = 1;
 
 const STABLE: u8 = 2;
 
-const CHANGED: usize = 1;
+// Here the area that holds the image stands first.
+#[derive(Drop)]
+pub(crate) struct Definition {
+    alloc: Global,
+    shapes: Shapes,
+    image: Image,
+    side: Side,
+}
 
-pub(crate) const AT_REST: usize = 2;
-
-// The areas where they are: the image is in the first one when passes is even, else in the second.
-pub(crate) fn placed(side: Side) -> Side {
-    let job = side.job;
-    if job.passes % 2 == 0 {
-        return side;
+impl Definition {
+    // A job that has loaded an image.
+    pub(crate) fn load(
+        alloc: Global,
+        table: Table,
+        image: Image,
+    ) -> Result<Definition, AllocError> {
+        let width = usize::from(image.size.width);
+        let height = usize::from(image.size.height);
+        let mut side = Side::start();
+        side.job = Job {
+            stage: LOADED,
+            width,
+            height,
+            table,
+            strip: parts::whole(width, height),
+            ..empty()
+        };
+        copy_to_front(&mut side.first, image.pixels.as_slice());
+        Ok(Definition {
+            alloc,
+            shapes: Shapes::new(alloc, &table)?,
+            image,
+            side,
+        })
     }
-    let first = side.second;
-    let second = side.first;
-    let mut next = side;
-    next.first = first;
-    next.second = second;
-    next
-}
 
-// A job whose first area has an image in front.
-pub(crate) fn load(table: Table, size: Size, first: [u8; AREA]) -> Side {
-    let job = Job {
-        stage: LOADED,
-        width: size.width,
-        height: size.height,
-        passes: 0,
-        added: 0,
-        removed: 0,
-        table,
-        strip: parts::whole(size),
-        counts: parts::counts(0, 0),
-    };
-    sides::with_areas(job, first, bytes::filled(sides::SECOND), 0)
-}
-
-// The other area takes the next image, quiet or not. A pass that changed pixels is counted; after a quiet one the job is at rest.
-pub(crate) fn pass(side: Side) -> Side {
-    let mut job = side.job;
-    let size = sides::size(job);
-    let before = side.first;
-    let mut next = side.second;
-    passes::pass(job.table, size, &before, &mut next);
-    let added = bytes::count(&before, &next, grid::pixels(size), 0, 1);
-    let removed = bytes::count(&before, &next, grid::pixels(size), 1, 0);
-    if bytes::more(added, removed) == 0 {
-        job.stage = STABLE;
-        return sides::with_areas(job, before, next, AT_REST);
+    // The areas where they are: the image is in the first one when passes is even, else in the second.
+    pub(crate) fn side(&self) -> Side {
+        let mut placed = self.side;
+        if placed.job.passes % 2 == 1 {
+            mem::swap(&mut placed.first, &mut placed.second);
+        }
+        placed
     }
-    job.passes = bytes::more(job.passes, 1);
-    job.added = bytes::more(job.added, added);
-    job.removed = bytes::more(job.removed, removed);
-    job.counts = parts::counts(job.added, job.removed);
-    sides::with_areas(job, next, before, CHANGED)
+
+    // The other area takes the next image, quiet or not. A pass that changed pixels is counted; after a quiet one the job is at rest.
+    pub(crate) fn pass(&mut self) -> Result<(), AllocError> {
+        let next = passes::next(self.alloc, &self.shapes, &self.image)?;
+        let added = turned(&self.image, &next, 1);
+        let removed = turned(&self.image, &next, 0);
+        copy_to_front(&mut self.side.second, next.pixels.as_slice());
+        self.image = next;
+        if added == 0 && removed == 0 {
+            self.side.job.stage = STABLE;
+            self.side.answered(Ok(Answer::Passed(Effect::Stable)));
+        } else {
+            self.count(added, removed);
+            self.side.answered(Ok(Answer::Passed(Effect::Changed)));
+        }
+        Ok(())
+    }
+
+    pub(crate) fn is_at_rest(&self) -> bool {
+        self.side.job.stage == STABLE
+    }
+
+    fn count(&mut self, added: usize, removed: usize) {
+        let side = &mut self.side;
+        side.job.passes = side.job.passes.saturating_add(1);
+        side.job.added = side.job.added.saturating_add(added);
+        side.job.removed = side.job.removed.saturating_add(removed);
+        side.job.counts = parts::counts(side.job.added, side.job.removed);
+        mem::swap(&mut side.first, &mut side.second);
+    }
+
+    pub(crate) fn view(&mut self) {
+        let mut out = [SECOND; AREA];
+        let length = copy_to_front(&mut out, self.image.pixels.as_slice());
+        self.side.out = out;
+        self.side.answer = Ok(Answer::Shown(length));
+    }
+
+    // Cover in thousandths; balance signed.
+    pub(crate) fn figures(&mut self) {
+        let job = self.side.job;
+        let black = self.image.pixels.iter().filter(|value| **value == 1);
+        let cover = thousandths(black.count(), self.image.size.pixels());
+        self.side.answer = Ok(Answer::Told(Figures {
+            balance: difference(job.added, job.removed),
+            cover,
+        }));
+    }
+
+    pub(crate) fn collect(&mut self) -> Result<(), AllocError> {
+        let file = files::written(self.alloc, &self.image)?;
+        let mut side = self.side();
+        side.job = empty();
+        side.out = [SECOND; AREA];
+        side.answer = Ok(Answer::Collected(copy_to_front(&mut side.out, file.as_slice())));
+        self.side = side;
+        Ok(())
+    }
 }
 
-pub(crate) fn view(side: Side) -> Side {
-    let count = grid::pixels(sides::size(side.job));
-    let pixels = side.first;
-    let mut out = side.out;
-    bytes::copy(&pixels, count, &mut out, 0);
-    sides::with_output(side, side.job, out, count)
+// How many pixels have this value, and had the other.
+fn turned(before: &Image, after: &Image, value: u8) -> usize {
+    let both = before.pixels.iter().zip(after.pixels.iter());
+    both.filter(|(old, new)| **old == value ^ 1 && **new == value)
+        .count()
 }
 
-// Cover in thousandths; balance signed.
-pub(crate) fn figures(side: Side) -> Side {
-    let job = side.job;
-    let count = grid::pixels(sides::size(job));
-    let pixels = side.first;
-    let black = bytes::count(&pixels, &pixels, count, 1, 1);
-    let mut next = side;
-    next.told = thousandths(black, count);
-    next.balance = difference(job.added, job.removed);
-    next
-}
-
-// To the nearest, both numbers below 65,536: a half is added and the rest cut off. Nothing is left exactly where a half was added to a half; the
-// even one is then this or the one before.
-fn thousandths(black: usize, count: usize) -> usize {
-    let pixels = count % 65536;
+// To the nearest: a half is added and the rest cut off. Nothing is left exactly where a half was added to a half; the even one is then this or
+// the one before.
+fn thousandths(black: usize, pixels: usize) -> usize
+    requires { pixels < 4294967296 }
+{
     if pixels == 0 {
         return 0;
     }
-    let sum = 2000 * (black % 65536) + pixels;
+    let sum = black.saturating_mul(2000).saturating_add(pixels);
     let near = sum / (2 * pixels);
     if sum % (2 * pixels) == 0 {
         return near - near % 2;
@@ -100,16 +143,6 @@ fn thousandths(black: usize, count: usize) -> usize {
     near
 }
 
-// The difference of two numbers below 32,768.
 fn difference(a: usize, b: usize) -> i64 {
-    (a % 32768) as i64 - (b % 32768) as i64
-}
-
-pub(crate) fn collect(side: Side) -> Side {
-    let pixels = side.first;
-    let mut out = side.out;
-    let sheet = files::written(sides::size(side.job), &pixels);
-    let file = sheet.bytes;
-    bytes::copy(&file, sheet.length, &mut out, 0);
-    sides::with_output(placed(side), sides::empty(), out, sheet.length)
+    a.cast_signed().saturating_sub(b.cast_signed()) as i64
 }

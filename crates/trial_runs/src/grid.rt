@@ -1,54 +1,111 @@
-// Places of an image in row order: row and column are carried along, never found by a division.
+// The size of an image, and its places. These come in row order: row and column are carried along, never found by a division.
 ghost use Rattle.std.specs.Prelude.{◌<◌};
-
-use crate::bytes;
+ghost use Rattle.std.specs.Iterator.{at_most};
 
 #[derive(Clone, Copy)]
 pub(crate) struct Size {
-    pub width: usize,
-    pub height: usize,
+    pub width: u16,
+    pub height: u16,
 }
 
 #[derive(Clone, Copy)]
 pub(crate) struct Place {
-    pub row: usize,
-    pub col: usize,
+    pub row: u16,
+    pub col: u16,
 }
 
-// The place after another.
-pub(crate) fn after(place: Place, width: usize) -> Place {
-    let col = bytes::more(place.col, 1);
-    if col < width {
-        return Place {
-            row: place.row,
-            col,
-        };
+// From one place to another.
+#[derive(Clone, Copy)]
+pub(crate) struct Offset {
+    pub down: i16,
+    pub right: i16,
+}
+
+// The places of an image from one on, and how many these are.
+#[derive(Clone, Copy)]
+pub(crate) struct Places {
+    width: u16,
+    next: Place,
+    left: usize,
+}
+
+impl Size {
+    pub(crate) fn pixels(self) -> usize
+        ensures { result < 4294967296 }
+    {
+        usize::from(self.width) * usize::from(self.height)
     }
-    Place {
-        row: bytes::more(place.row, 1),
-        col: 0,
+
+    // The index of a place, outside the image none.
+    pub(crate) fn index(self, place: Place) -> Option<usize> {
+        if self.width <= place.col || self.height <= place.row {
+            return None;
+        }
+        let row_start = usize::from(place.row) * usize::from(self.width);
+        Some(row_start + usize::from(place.col))
+    }
+
+    pub(crate) fn places(self) -> Places {
+        Places {
+            width: self.width,
+            next: Place { row: 0, col: 0 },
+            left: self.pixels(),
+        }
+    }
+
+    // The pixel that an offset stands for: row and column each cut to the range.
+    pub(crate) fn nearest(self, place: Place, offset: Offset) -> Place {
+        let row = place.row.saturating_add_signed(offset.down);
+        let col = place.col.saturating_add_signed(offset.right);
+        Place {
+            row: row.min(self.height.saturating_sub(1)),
+            col: col.min(self.width.saturating_sub(1)),
+        }
     }
 }
 
-pub(crate) fn pixels(size: Size) -> usize {
-    index(size.height, 0, size.width)
+impl Place {
+    pub(crate) fn moved(self, offset: Offset) -> Option<Place> {
+        Some(Place {
+            row: self.row.checked_add_signed(offset.down)?,
+            col: self.col.checked_add_signed(offset.right)?,
+        })
+    }
+
+    fn after(self, width: u16) -> Place {
+        let col = self.col.saturating_add(1);
+        if col < width {
+            return Place { row: self.row, col };
+        }
+        Place {
+            row: self.row.saturating_add(1),
+            col: 0,
+        }
+    }
 }
 
-const LIMIT: usize = 300;
-
-// The index of a row and a column, where row and width are below the limit.
-pub(crate) fn index(row: usize, col: usize, width: usize) -> usize {
-    if LIMIT <= row {
-        return 0;
+impl Offset {
+    // Between two positions of a mask, whose rows have five.
+    pub(crate) fn between(from: u8, to: u8) -> Offset {
+        Offset {
+            down: i16::from(to / 5) - i16::from(from / 5),
+            right: i16::from(to % 5) - i16::from(from % 5),
+        }
     }
-    if LIMIT <= width {
-        return 0;
-    }
-    bytes::more(product(row, width), col)
 }
 
-fn product(a: usize, b: usize) -> usize
-    requires { (a < 300) × (b < 300) }
-{
-    a * b
+impl Iterator for Places {
+    type Item = Place;
+
+    ghost remaining = { λ s. at_most s.left };
+
+    fn next(&mut self) -> Option<Place> {
+        if self.left == 0 {
+            return None;
+        }
+        self.left -= 1;
+        let place = self.next;
+        self.next = place.after(self.width);
+        Some(place)
+    }
 }

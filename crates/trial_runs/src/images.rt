@@ -1,63 +1,70 @@
-// Generated images: blocks of either colour, some as large as the image, with some pixels turned; and the majority of three of them.
-use crate::bytes::AREA;
+// Images; generated ones: blocks of either colour, some as large as the image, with some pixels turned; and the majority of three images.
+use crate::generator;
 use crate::grid::{Place, Size};
-use crate::{bytes, generator, grid};
+use std::alloc::{AllocError, Global};
+
+// An image of as many pixels as its size has.
+#[derive(Drop)]
+pub(crate) struct Image {
+    pub size: Size,
+    pub pixels: Vec<u8>,
+}
+
+impl Image {
+    // Each pixel has the value that a function gives for its place.
+    pub(crate) fn new<F: FnMut(Place) -> u8>(
+        alloc: Global,
+        size: Size,
+        value: F,
+    ) -> Result<Image, AllocError>
+        requires { (state : F) (place : _) → F.pre state place }
+    {
+        let pixels = size.places().map(value).collect(alloc)?;
+        Ok(Image { size, pixels })
+    }
+
+    // The value of a pixel, outside the image none.
+    pub(crate) fn at(&self, place: Place) -> Option<u8> {
+        self.pixels.get(self.size.index(place)?).copied()
+    }
+}
 
 // Three images of one size.
-#[derive(Clone, Copy)]
-pub(crate) struct Triple {
-    pub one: [u8; AREA],
-    pub two: [u8; AREA],
-    pub three: [u8; AREA],
+pub(crate) fn three(alloc: Global, seed: u32, size: Size) -> Result<[Image; 3], AllocError> {
+    Ok([
+        drawn(alloc, seed, size)?,
+        drawn(alloc, generator::draw(seed, 21), size)?,
+        drawn(alloc, generator::draw(seed, 22), size)?,
+    ])
 }
 
-pub(crate) fn three(seed: u32, size: Size) -> Triple {
-    Triple {
-        one: drawn(seed, size),
-        two: drawn(generator::draw(seed, 21), size),
-        three: drawn(generator::draw(seed, 22), size),
-    }
+// Second implementation (02, T-12): a pixel is black when at least two have it black.
+pub(crate) fn majority(
+    alloc: Global,
+    size: Size,
+    images: &[Image; 3],
+) -> Result<Image, AllocError> {
+    Image::new(alloc, size, |place| u8::from(2 <= blacks(images, place)))
 }
 
-fn drawn(seed: u32, size: Size) -> [u8; AREA] {
-    let mut area = bytes::filled(0);
-    draw(seed, size, &mut area);
-    area
+fn blacks(images: &[Image; 3], place: Place) -> usize {
+    let black = images.iter().filter(|image| image.at(place) == Some(1));
+    black.count()
 }
 
-// Second implementation (02, T-12): a pixel is black when at least two have it black. Into the front of an area.
-pub(crate) fn majority(images: Triple, size: Size, area: &mut [u8]) {
-    let one = images.one;
-    let two = images.two;
-    let three = images.three;
-    for k in 0..grid::pixels(size) {
-        let value = majority_of(bytes::at(&one, k), bytes::at(&two, k), bytes::at(&three, k));
-        bytes::put(area, k, value);
-    }
+pub(crate) fn drawn(alloc: Global, seed: u32, size: Size) -> Result<Image, AllocError> {
+    Image::new(alloc, size, |place| pixel(seed, place))
 }
 
-fn majority_of(one: u8, two: u8, three: u8) -> u8 {
-    let black = bytes::more(bytes::more(one as usize, two as usize), three as usize);
-    (2 <= black) as u8
-}
-
-// Draws an image into the front of an area.
-pub(crate) fn draw(seed: u32, size: Size, area: &mut [u8]) {
-    let mut place = Place { row: 0, col: 0 };
-    for k in 0..grid::pixels(size) {
-        bytes::put(area, k, pixel(seed, place.row, place.col));
-        let follows = grid::after(place, size.width);
-        place = follows;
-    }
-}
-
-fn pixel(seed: u32, row: usize, col: usize) -> u8 {
+fn pixel(seed: u32, place: Place) -> u8 {
+    let row = u32::from(place.row);
+    let col = u32::from(place.col);
     let shape = generator::draw(seed, 11);
     let block = spot(row >> (2 + shape % 6), col >> (2 + shape / 8 % 6));
     let turned = generator::draw(shape, spot(row, col)) % (5 + shape / 64 % 24) == 0;
-    (generator::draw(seed, block) % 2) as u8 ^ turned as u8
+    (generator::draw(seed, block) % 2) as u8 ^ u8::from(turned)
 }
 
-fn spot(row: usize, col: usize) -> u32 {
-    1000 + (row % 512 * 512 + col % 512) as u32
+fn spot(row: u32, col: u32) -> u32 {
+    1000 + (row % 512 * 512 + col % 512)
 }

@@ -1,105 +1,103 @@
 // Whole jobs: each call is made by the library and by the second implementation, and all that the two leave is compared.
+use crate::definition::Definition;
+use crate::files;
+use crate::images::Image;
+use crate::library::Library;
 use crate::report::Tally;
-use crate::sides::Side;
-use crate::{bytes, definition, library, parts, report, sides};
-use history::Job;
+use crate::side::Side;
+use std::alloc::{AllocError, Global};
 use table::Table;
 
 // More passes than a job of a trial has.
 const MOST: usize = 2000;
 
-// A whole job from a file: load, and what follows it.
-pub(crate) fn whole(tally: Tally, seed: u32, loaded: Side) -> Tally {
-    followed(tally, seed, library::load(sides::start(), loaded), loaded)
+// What the library leaves, what it is to leave, and the file of the image.
+#[derive(Drop)]
+pub(crate) struct Trial {
+    seed: u32,
+    table: Table,
+    file: Vec<u8>,
+    made: Library,
+    meant: Definition,
 }
 
-// From a load on: passes until nothing changes, then the rest. `made` is what the library leaves, `meant` what it is to leave.
-pub(crate) fn followed(tally: Tally, seed: u32, begun: Side, loaded: Side) -> Tally {
-    let mut so_far = tally;
-    let mut made = begun;
-    let mut meant = loaded;
-    for k in 0..MOST {
-        let counted = compared(so_far, seed, made, meant);
-        so_far = counted;
-        if meant.told == definition::AT_REST {
-            return rest(so_far, seed, made, meant, loaded);
+impl Trial {
+    // Before the library's load.
+    pub(crate) fn new(
+        alloc: Global,
+        seed: u32,
+        table: Table,
+        image: Image,
+    ) -> Result<Trial, AllocError> {
+        Ok(Trial {
+            seed,
+            table,
+            file: files::written(alloc, &image)?,
+            made: Library::new(),
+            meant: Definition::load(alloc, table, image)?,
+        })
+    }
+
+    // A whole job from the file.
+    pub(crate) fn run(&mut self, tally: &mut Tally) -> Result<(), AllocError> {
+        self.made.load(self.table, self.file.as_slice());
+        self.follow(tally)
+    }
+
+    // A whole job from three files, of whose images this is the majority.
+    pub(crate) fn run_three(
+        &mut self,
+        tally: &mut Tally,
+        files: [&[u8]; 3],
+    ) -> Result<(), AllocError> {
+        self.made.load_three(self.table, files);
+        self.follow(tally)
+    }
+
+    // From a load on: passes until nothing changes, then the rest.
+    fn follow(&mut self, tally: &mut Tally) -> Result<(), AllocError> {
+        self.compare(tally)?;
+        for _ in 0..MOST {
+            self.made.pass();
+            self.meant.pass()?;
+            self.compare(tally)?;
+            if self.meant.is_at_rest() {
+                return self.end(tally);
+            }
         }
-        let passed = library::pass(made);
-        made = passed;
-        let passed = definition::pass(meant);
-        meant = passed;
+        tally.disagree(self.seed)
     }
-    report::disagree(so_far, seed)
-}
 
-// View, figures, collect; and on the emptied record a load of the same file three times, and a run, which is to end as the passes did.
-fn rest(tally: Tally, seed: u32, made: Side, meant: Side, loaded: Side) -> Tally {
-    let counted = compared(tally, seed, library::view(made), definition::view(meant));
-    let counted = compared(
-        counted,
-        seed,
-        library::figures(made),
-        definition::figures(meant),
-    );
-    let emptied = library::collect(made);
-    let counted = compared(counted, seed, emptied, definition::collect(meant));
-    let again = library::run(library::load_thrice(emptied, loaded));
-    report::with_pair(compared(counted, seed, again, meant), meant.job)
-}
-
-// Counts a call, or a disagreement where the sides are not the same after it.
-fn compared(tally: Tally, seed: u32, made: Side, meant: Side) -> Tally {
-    if same(made, definition::placed(meant)) {
-        return report::with_call(tally);
+    // View, figures, collect; and on the emptied record a load of the same file three times, and a run, which is to end as the passes did.
+    fn end(&mut self, tally: &mut Tally) -> Result<(), AllocError> {
+        let at_rest = self.meant.side();
+        self.made.view();
+        self.meant.view();
+        self.compare(tally)?;
+        self.made.figures();
+        self.meant.figures();
+        self.compare(tally)?;
+        self.made.collect();
+        self.meant.collect()?;
+        self.compare(tally)?;
+        let file = self.file.as_slice();
+        self.made.load_three(self.table, [file, file, file]);
+        self.made.run();
+        self.compare_with(tally, &at_rest)?;
+        tally.add_job(&at_rest.job);
+        Ok(())
     }
-    report::disagree(tally, seed)
-}
 
-fn same(a: Side, b: Side) -> bool {
-    if a.balance != b.balance {
-        return false;
+    fn compare(&self, tally: &mut Tally) -> Result<(), AllocError> {
+        self.compare_with(tally, &self.meant.side())
     }
-    differ_bytes(a, b) | differ_jobs(a.job, b.job) | (a.told ^ b.told) == 0
-}
 
-// 0 where areas and outputs are the same.
-fn differ_bytes(a: Side, b: Side) -> usize {
-    let first = a.first;
-    let second = a.second;
-    let out = a.out;
-    let other_first = b.first;
-    let other_second = b.second;
-    let other_out = b.out;
-    bytes::differ(first, other_first) as usize
-        | bytes::differ(second, other_second) as usize
-        | bytes::differ(out, other_out) as usize
-}
-
-// 0 where the records are the same.
-fn differ_jobs(a: Job, b: Job) -> usize {
-    let sizes = (a.width ^ b.width) | (a.height ^ b.height);
-    let counts = (a.passes ^ b.passes) | (a.added ^ b.added) | (a.removed ^ b.removed);
-    let stages = a.stage as usize ^ b.stage as usize;
-    sizes | counts | stages | differ_tables(a.table, b.table) | parts::differ(a, b)
-}
-
-fn differ_tables(a: Table, b: Table) -> usize {
-    let one = a.elements;
-    let other = b.elements;
-    let ranked = a.persistents;
-    let other_ranked = b.persistents;
-    let counts = (a.count ^ b.count) | (a.ranks ^ b.ranks);
-    counts | differ_ranks(ranked, other_ranked) as usize | differ_masks(one, other) as usize
-}
-
-fn differ_ranks(a: [u32; 4], b: [u32; 4]) -> u32 {
-    (a[0] ^ b[0]) | (a[1] ^ b[1]) | (a[2] ^ b[2]) | (a[3] ^ b[3])
-}
-
-fn differ_masks(a: [u32; 64], b: [u32; 64]) -> u32 {
-    let mut bits = 0;
-    for k in 0..64 {
-        bits = bits | (a[k] ^ b[k]);
+    // Counts a call, or a disagreement where the sides are not the same after it.
+    fn compare_with(&self, tally: &mut Tally, meant: &Side) -> Result<(), AllocError> {
+        if self.made.side == *meant {
+            tally.add_call();
+            return Ok(());
+        }
+        tally.disagree(self.seed)
     }
-    bits
 }

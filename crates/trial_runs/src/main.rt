@@ -1,8 +1,8 @@
 // Trials against a second implementation (01, Trial sheets and tables): it and the library do the same jobs, and all that they leave is
-// compared. It is written from 01, shares plain data types only, and stands in passes, files and definition.
+// compared. It is written from 01, shares plain data types only, and stands in passes, shapes, files, images (the majority) and definition.
 #![tactic(auto)]
 
-mod bytes;
+mod area;
 mod definition;
 mod files;
 mod generator;
@@ -13,17 +13,23 @@ mod library;
 mod parts;
 mod passes;
 mod report;
-mod sides;
+mod shapes;
+mod side;
 mod tables;
 mod trials;
 
+use report::Tally;
 use std::io;
 
 fn main(rt: HostRuntime) -> io::Result<()> {
+    let alloc = rt.alloc();
     trials::width(&rt, 256)?;
     trials::width(&rt, 257)?;
-    let tally = trials::generated(trials::median(&rt)?, 1, 8, 8);
-    let tally = trials::generated(tally, 2, 33, 33);
-    let tally = trials::generated(tally, 3, 256, 4);
-    report::summary(&rt, trials::generated(tally, 4, 4, 256))
+    let mut tally = Tally::new(alloc);
+    trials::median(&rt, &mut tally)?;
+    trials::generated(alloc, &mut tally, 1, 8, 8)?;
+    trials::generated(alloc, &mut tally, 2, 33, 33)?;
+    trials::generated(alloc, &mut tally, 3, 256, 4)?;
+    trials::generated(alloc, &mut tally, 4, 4, 256)?;
+    println!(rt; "{tally}")
 }

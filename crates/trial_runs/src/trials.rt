@@ -1,88 +1,101 @@
 // 01's trials that are no proved cases, and generated pairs of table and image.
 ghost use Rattle.std.specs.Prelude.{◌<◌};
 
-use crate::bytes::AREA;
-use crate::grid::Size;
+use crate::grid::{Place, Size};
+use crate::images::Image;
+use crate::jobs::Trial;
+use crate::library::Library;
 use crate::report::Tally;
-use crate::{bytes, definition, generator, images, jobs, library, report, sides, tables};
+use crate::{files, generator, images, tables};
+use std::alloc::{AllocError, Global};
 use std::io;
+use table::Table;
 
-const PAIRS: usize = 2048;
+const PAIRS: u16 = 2048;
 
 // A white image of this width and of one row: the number that load refuses it by, or 0.
-pub(crate) fn width(rt: &impl Print, width: usize) -> io::Result<()> {
-    let size = Size { width, height: 1 };
-    let white = definition::load(tables::ring(), size, bytes::filled(0));
-    let loaded = library::load(sides::start(), white);
-    let number = loaded.told % library::REFUSED;
+pub(crate) fn width<R: Print + AllocGlobal>(rt: &R, width: u16) -> io::Result<()> {
+    let alloc = rt.alloc();
+    let white = Image::new(alloc, Size { width, height: 1 }, |_| 0)?;
+    let loaded = loaded(alloc, tables::ring(alloc)?, &white)?;
+    let number = match loaded.side.answer {
+        Ok(_) => 0,
+        Err(refusal) => refusal.rule.number(),
+    };
     println!(rt; "width {width}: refusal {number}")
 }
 
 // Median's 56 elements on 24 × 24, black only at columns 11 to 12, rows 9 to 14.
-pub(crate) fn median(rt: &impl Print) -> io::Result<Tally> {
+pub(crate) fn median<R: Print + AllocGlobal>(rt: &R, tally: &mut Tally) -> io::Result<()> {
+    let alloc = rt.alloc();
     let size = Size {
         width: 24,
         height: 24,
     };
-    let loaded = definition::load(tables::median(), size, bar());
-    let stable = library::run(library::load(sides::start(), loaded));
-    let job = stable.job;
-    let table = job.table;
+    let bar = Image::new(alloc, size, |place| u8::from(is_in_bar(place)))?;
+    let table = tables::median(alloc)?;
+    let mut stable = loaded(alloc, table, &bar)?;
+    stable.run();
+    let job = stable.side.job;
     println!(rt;
         "median's {} elements on 24 x 24: {} passes, {} added, {} removed",
-        table.count, job.passes, job.added, job.removed
+        job.table.count, job.passes, job.added, job.removed
     )?;
-    Ok(jobs::whole(report::none(), 0, loaded))
+    Trial::new(alloc, 0, table, bar)?.run(tally)?;
+    Ok(())
 }
 
-fn bar() -> [u8; AREA] {
-    let white = bytes::filled(0);
-    let mut area = bytes::filled(sides::FIRST);
-    bytes::copy(&white, 576, &mut area, 0);
-    for row in 9..15 {
-        bytes::copy(b"\x01\x01", 2, &mut area, 24 * row + 11);
-    }
-    area
+fn is_in_bar(place: Place) -> bool {
+    (9..15).contains(&place.row) && (11..13).contains(&place.col)
 }
 
-fn pair(tally: Tally, seed: u32, size: Size) -> Tally {
-    let mut first = bytes::filled(sides::FIRST);
-    images::draw(seed, size, &mut first);
-    jobs::whole(
-        tally,
-        seed,
-        definition::load(tables::generated(seed), size, first),
-    )
+// What the library leaves of a load.
+fn loaded(alloc: Global, table: Table, image: &Image) -> Result<Library, AllocError> {
+    let file = files::written(alloc, image)?;
+    let mut library = Library::new();
+    library.load(table, file.as_slice());
+    Ok(library)
+}
+
+fn pair(alloc: Global, tally: &mut Tally, seed: u32, size: Size) -> Result<(), AllocError> {
+    let table = tables::generated(alloc, seed)?;
+    Trial::new(alloc, seed, table, images::drawn(alloc, seed, size)?)?.run(tally)
 }
 
 // The image is that of three files.
-fn of_three(tally: Tally, seed: u32, size: Size) -> Tally {
-    let table = tables::generated(seed);
-    let drawn = images::three(seed, size);
-    let mut first = bytes::filled(sides::FIRST);
-    images::majority(drawn, size, &mut first);
-    let begun = library::load_three(sides::start(), table, size, drawn);
-    jobs::followed(tally, seed, begun, definition::load(table, size, first))
+fn of_three(alloc: Global, tally: &mut Tally, seed: u32, size: Size) -> Result<(), AllocError> {
+    let table = tables::generated(alloc, seed)?;
+    let drawn = images::three(alloc, seed, size)?;
+    let image = images::majority(alloc, size, &drawn)?;
+    let [one, two, three] = drawn;
+    let one = files::written(alloc, &one)?;
+    let two = files::written(alloc, &two)?;
+    let three = files::written(alloc, &three)?;
+    let files = [one.as_slice(), two.as_slice(), three.as_slice()];
+    Trial::new(alloc, seed, table, image)?.run_three(tally, files)
 }
 
 // Pairs of every width up to one limit with every height up to another, again and again; in every fifth the image is that of three files.
-pub(crate) fn generated(tally: Tally, seed: u32, wide: usize, high: usize) -> Tally
+pub(crate) fn generated(
+    alloc: Global,
+    tally: &mut Tally,
+    seed: u32,
+    wide: u16,
+    high: u16,
+) -> Result<(), AllocError>
     requires { (0 < wide) × (0 < high) }
 {
-    let mut next = tally;
     for k in 0..PAIRS {
         let size = Size {
-            width: bytes::more(1, k % wide),
-            height: bytes::more(1, k / wide % high),
+            width: 1 + k % wide,
+            height: 1 + k / wide % high,
         };
-        let drawn = generator::draw(seed, k as u32);
+        let drawn = generator::draw(seed, u32::from(k));
         if k % 5 == 4 {
-            let made = of_three(next, drawn, size);
-            next = made;
+            of_three(alloc, tally, drawn, size)?;
         } else {
-            let made = pair(next, drawn, size);
-            next = made;
+            pair(alloc, tally, drawn, size)?;
         }
     }
-    next
+    Ok(())
 }

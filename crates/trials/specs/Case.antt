@@ -7,7 +7,7 @@
 --     ran t f             record and areas after a file is loaded with a table, and run
 --     meets c             the definitions give what is expected
 -- Assumes nothing.
-use Rattle.std.specs.Prelude.{Bool, false, not, ◌&&◌, List, [], ◌∷◌, ℕ, ◌-◌, ◌*◌, ◌/◌, ◌%◌, eqb, leb, ltb, length, replicate}
+use Rattle.std.specs.Prelude.{Bool, false, not, ◌&&◌, List, [], ◌∷◌, ℕ, ◌-◌, ◌*◌, ◌/◌, ◌%◌, eqb, leb, ltb, length, replicate, Ok, Err}
 use Rattle.operator.specs.Image.{differs_at}
 use Rattle.operator.specs.Pass.{opened}
 use Rattle.operator.specs.Plain.{plain}
@@ -24,9 +24,7 @@ use Rattle.seq.specs.Tab.{up_to}
 use Rattle.table.specs.declared.Table.{Table}
 use Rattle.table.specs.File.{table_of, file_verdict, table_bytes}
 use Rattle.table.specs.Record.{record_verdict}
-use Rattle.verdict.specs.declared.Verdict.{Verdict}
-use Rattle.verdict.specs.declared.Verdict.TheVariants.{Accepted, Refused}
-use Rattle.verdict.specs.Rules.{is_accepted}
+use Rattle.verdict.specs.Rules.{is_accepted, Verdict, number_of}
 
 pub data Case : Type 0 where
   -- the table's file, both ways
@@ -49,8 +47,8 @@ same_table t u =
     && (eqb t.ranks u.ranks && same_list t.persistents u.persistents)
 
 abbrev pub refused_with : Verdict → ℕ → ℕ → ℕ → ℕ → Bool
-refused_with Accepted n p a b = false
-refused_with (Refused r) n p a b = (eqb r.number n && eqb r.place p) && (eqb r.witness a && eqb r.position b)
+refused_with (Ok _) n p a b = false
+refused_with (Err r) n p a b = (eqb (number_of r) n && eqb r.place p) && (eqb r.witness a && eqb r.position b)
 
 abbrev pub inner : ℕ → ℕ → ℕ → Bool
 inner w h i = (leb 1 (i / w) && ltb (i / w) (h - 1)) && (leb 1 (i % w) && ltb (i % w) (w - 1))

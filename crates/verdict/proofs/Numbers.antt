@@ -7,10 +7,10 @@
 --     one_of_passes               a test that all of them pass
 --     one_of_other                a number that is not among them
 -- Assumes nothing.
+use Rattle.std.specs.Prelude.{Option, None, Some, Err}
 use mathlib.Core.Bool.{Bool, true, false}
 use mathlib.Core.List.{List, ◌++◌}
 use mathlib.Core.Logic.{◌≢◌}
-use mathlib.Core.Option.{Option, none, some}
 use mathlib.Core.Path.{◌≡◌, refl, ap, subst, ◌∙◌}
 use Prim.Native.Nat.{ℕ}
 use borrow.Author.Tests.{eqb-true}
@@ -18,22 +18,21 @@ use lib.Dec.{eqb}
 use Rattle.seq.specs.Lists.{all}
 use Rattle.seq.proofs.Lists.{clash, any_elim, all_elim}
 use Rattle.verdict.specs.declared.Refusal.{Refusal}
-use Rattle.verdict.specs.declared.Verdict.{Verdict}
-use Rattle.verdict.specs.declared.Verdict.TheVariants.{Refused}
+use Rattle.verdict.specs.declared.Rule.{Rule}
 use Rattle.verdict.specs.Numbers.{Says, accepts, refuses, among, By, by, OneOf}
-use Rattle.verdict.specs.Rules.{refusal, refuse_if, refuse_by, refuse_at, or_else, judge}
+use Rattle.verdict.specs.Rules.{number_of, refusal, refuse_if, refuse_by, refuse_at, or_else, judge, Verdict}
 use Rattle.verdict.proofs.Rules.{refused_accepted, judge_append}
 
 module _ {P : Refusal → Type 0} where
-  pub says_if : (b : Bool) (n p : ℕ) → P (refusal n p) → Says P (refuse_if b n p)
+  pub says_if : (b : Bool) (n : Rule) (p : ℕ) → P (refusal n p) → Says P (refuse_if b n p)
   says_if true n p h = refuses h
   says_if false n p h = accepts
 
-  pub says_by : (o : Option ℕ) (say : ℕ → Refusal) → ((k : ℕ) → o ≡ some k → P (say k)) → Says P (refuse_by o say)
-  says_by none say h = accepts
-  says_by (some k) say h = refuses (h k refl)
+  pub says_by : (o : Option ℕ) (say : ℕ → Refusal) → ((k : ℕ) → o ≡ Some k → P (say k)) → Says P (refuse_by o say)
+  says_by None say h = accepts
+  says_by (Some k) say h = refuses (h k refl)
 
-  pub says_at : (o : Option ℕ) (n : ℕ) (at : ℕ → ℕ) → ((p : ℕ) → P (refusal n p)) → Says P (refuse_at o n at)
+  pub says_at : (o : Option ℕ) (n : Rule) (at : ℕ → ℕ) → ((p : ℕ) → P (refusal n p)) → Says P (refuse_at o n at)
   says_at o n at h = says_by o (λ k. refusal n (at k)) (λ k e. h (at k))
 
   pub says_or : {v w : Verdict} → Says P v → Says P w → Says P (or_else v w)
@@ -47,7 +46,7 @@ module _ {P : Refusal → Type 0} where
   says_more f accepts = accepts
   says_more f (refuses {r} h) = refuses (f r h)
 
-  pub says_of : {v : Verdict} {r : Refusal} → Says P v → v ≡ Refused r → P r
+  pub says_of : {v : Verdict} {r : Refusal} → Says P v → v ≡ Err r → P r
   says_of accepts q = refused_accepted q refl
   says_of {r = r} (refuses {r = x} h) q = let same : x ≡ r = cc in subst P same h
 
@@ -55,16 +54,16 @@ module _ {ns : List ℕ} where
   pub one_of_more : {ms : List ℕ} {v : Verdict} → OneOf ns v → all (among ms) ns ≡ true → OneOf ms v
   one_of_more accepts h = accepts
   one_of_more {ms} (refuses {r} (by m)) h =
-      let (n, k, e) = any_elim (eqb r.number) ns m in
-      refuses (by (ap (among ms) (eqb-true r.number n e) ∙ all_elim (among ms) h k))
+      let (n, k, e) = any_elim (eqb (number_of r)) ns m in
+      refuses (by (ap (among ms) (eqb-true (number_of r) n e) ∙ all_elim (among ms) h k))
 
-  pub one_of_passes : {v : Verdict} {r : Refusal} (p : ℕ → Bool) → OneOf ns v → all p ns ≡ true → v ≡ Refused r → p r.number ≡ true
+  pub one_of_passes : {v : Verdict} {r : Refusal} (p : ℕ → Bool) → OneOf ns v → all p ns ≡ true → v ≡ Err r → p (number_of r) ≡ true
   one_of_passes {r = r} p s h q = step (says_of s q)
     where
-      step : By ns r → p r.number ≡ true
-      step (by m) = let (n, k, e) = any_elim (eqb r.number) ns m in ap p (eqb-true r.number n e) ∙ all_elim p h k
+      step : By ns r → p (number_of r) ≡ true
+      step (by m) = let (n, k, e) = any_elim (eqb (number_of r)) ns m in ap p (eqb-true (number_of r) n e) ∙ all_elim p h k
 
-  pub one_of_other : {v : Verdict} {r : Refusal} {n : ℕ} → OneOf ns v → among ns n ≡ false → v ≡ Refused r → r.number ≢ n
+  pub one_of_other : {v : Verdict} {r : Refusal} {n : ℕ} → OneOf ns v → among ns n ≡ false → v ≡ Err r → number_of r ≢ n
   one_of_other {r = r} s h q e = step (says_of s q)
     where
       step : By ns r → ⊥

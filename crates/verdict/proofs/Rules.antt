@@ -7,9 +7,9 @@
 --     refuse_at_map      a place that is worked out before or after
 --     search_found, search_none    what a loop that searches from 0 on answers, the places counted from 1
 -- Assumes nothing.
+use Rattle.std.specs.Prelude.{Option, None, Some, option_map, Ok, Err}
 use mathlib.Core.Bool.{Bool, true, false}
 use mathlib.Core.List.{List, [], ◌∷◌, ◌++◌, Memᴰ}
-use mathlib.Core.Option.{Option, none, some, map}
 use mathlib.Core.Path.{◌≡◌, refl, sym, ap, ◌∙◌}
 use Prim.Native.Nat.{ℕ, suc, ◌+◌, ◌≤◌, ◌<◌}
 use native.Mathlib.Numerals.{add-one}
@@ -17,14 +17,13 @@ use native.Mathlib.Omega.{arith}
 use Rattle.seq.specs.Tab.{first}
 use Rattle.seq.proofs.Search.{Passed, passed_found, passed_all}
 use Rattle.verdict.specs.declared.Refusal.{Refusal}
-use Rattle.verdict.specs.declared.Verdict.{Verdict}
-use Rattle.verdict.specs.declared.Verdict.TheVariants.{Accepted, Refused}
-use Rattle.verdict.specs.Rules.{refusal, refuse_if, refuse_by, refuse_at, or_else, judge}
+use Rattle.verdict.specs.declared.Rule.{Rule}
+use Rattle.verdict.specs.Rules.{refusal, refuse_if, refuse_by, refuse_at, or_else, judge, Verdict}
 
 pub judge_append : (vs ws : List Verdict) → judge (vs ++ ws) ≡ or_else (judge vs) (judge ws)
 judge_append [] ws = refl
-judge_append (Accepted ∷ vs) ws = judge_append vs ws
-judge_append (Refused r ∷ vs) ws = refl
+judge_append ((Ok _) ∷ vs) ws = judge_append vs ws
+judge_append (Err r ∷ vs) ws = refl
 
 -- a list of rules in place of one that judges by it
 pub judge_within : (us vs ws : List Verdict) → judge (us ++ judge vs ∷ ws) ≡ judge (us ++ (vs ++ ws))
@@ -32,55 +31,55 @@ judge_within [] vs ws = sym (judge_append vs ws)
 judge_within (u ∷ us) vs ws = ap (or_else u) (judge_within us vs ws)
 
 -- a refusal is no acceptance
-pub refused_accepted {ℓ} : {P : Type ℓ} {v : Verdict} {r : Refusal} → v ≡ Refused r → v ≡ Accepted → P
+pub refused_accepted {ℓ} : {P : Type ℓ} {v : Verdict} {r : Refusal} → v ≡ Err r → v ≡ Ok tt → P
 refused_accepted p q = absurd (let z : ◌≡◌ {A = ℕ} 0 1 = cc in omega arith)
 
 pub or_else_assoc : (u v w : Verdict) → or_else (or_else u v) w ≡ or_else u (or_else v w)
-or_else_assoc Accepted v w = refl
-or_else_assoc (Refused r) v w = refl
+or_else_assoc (Ok _) v w = refl
+or_else_assoc (Err r) v w = refl
 
-pub or_else_accepted : (v : Verdict) → or_else v Accepted ≡ v
-or_else_accepted Accepted = refl
-or_else_accepted (Refused r) = refl
+pub or_else_accepted : (v : Verdict) → or_else v (Ok tt) ≡ v
+or_else_accepted (Ok _) = refl
+or_else_accepted (Err r) = refl
 
 pub judge_last : (vs : List Verdict) (v : Verdict) → judge (vs ++ v ∷ []) ≡ or_else (judge vs) v
 judge_last vs v = judge_append vs (v ∷ []) ∙ ap (or_else (judge vs)) (or_else_accepted v)
 
-pub or_else_left : (v w : Verdict) → or_else v w ≡ Accepted → v ≡ Accepted
-or_else_left Accepted w e = refl
-or_else_left (Refused r) w e = e
+pub or_else_left : (v w : Verdict) → or_else v w ≡ Ok tt → v ≡ Ok tt
+or_else_left (Ok _) w e = refl
+or_else_left (Err r) w e = e
 
-pub or_else_right : (v w : Verdict) → or_else v w ≡ Accepted → w ≡ Accepted
-or_else_right Accepted w e = e
-or_else_right (Refused r) w e = refused_accepted refl e
+pub or_else_right : (v w : Verdict) → or_else v w ≡ Ok tt → w ≡ Ok tt
+or_else_right (Ok _) w e = e
+or_else_right (Err r) w e = refused_accepted refl e
 
-pub judge_accepted : {v : Verdict} {vs : List Verdict} → judge vs ≡ Accepted → Memᴰ v vs → v ≡ Accepted
+pub judge_accepted : {v : Verdict} {vs : List Verdict} → judge vs ≡ Ok tt → Memᴰ v vs → v ≡ Ok tt
 judge_accepted e (Memᴰ.head {x = x} {xs = xs} q) = q ∙ or_else_left x (judge xs) e
 judge_accepted e (Memᴰ.tail {x = x} {xs = xs} m) = judge_accepted (or_else_right x (judge xs) e) m
 
-pub accepted_judge : (vs : List Verdict) → ((v : Verdict) → Memᴰ v vs → v ≡ Accepted) → judge vs ≡ Accepted
+pub accepted_judge : (vs : List Verdict) → ((v : Verdict) → Memᴰ v vs → v ≡ Ok tt) → judge vs ≡ Ok tt
 accepted_judge [] h = refl
 accepted_judge (v ∷ vs) h = rw (h v (Memᴰ.head refl)) (accepted_judge vs (λ w m. h w (Memᴰ.tail m)))
 
 -- a rule that accepts: its test fails, its search finds nothing
-pub refuse_if_accepted : (b : Bool) (n p : ℕ) → refuse_if b n p ≡ Accepted → b ≡ false
+pub refuse_if_accepted : (b : Bool) (n : Rule) (p : ℕ) → refuse_if b n p ≡ Ok tt → b ≡ false
 refuse_if_accepted true n p e = refused_accepted refl e
 refuse_if_accepted false n p e = refl
 
-pub refuse_by_accepted : (o : Option ℕ) (say : ℕ → Refusal) → refuse_by o say ≡ Accepted → o ≡ none
-refuse_by_accepted none say e = refl
-refuse_by_accepted (some k) say e = refused_accepted refl e
+pub refuse_by_accepted : (o : Option ℕ) (say : ℕ → Refusal) → refuse_by o say ≡ Ok tt → o ≡ None
+refuse_by_accepted None say e = refl
+refuse_by_accepted (Some k) say e = refused_accepted refl e
 
-pub refuse_at_accepted : (o : Option ℕ) (n : ℕ) (at : ℕ → ℕ) → refuse_at o n at ≡ Accepted → o ≡ none
+pub refuse_at_accepted : (o : Option ℕ) (n : Rule) (at : ℕ → ℕ) → refuse_at o n at ≡ Ok tt → o ≡ None
 refuse_at_accepted o n at = refuse_by_accepted o (λ k. refusal n (at k))
 
-pub refuse_at_map : (o : Option ℕ) (n : ℕ) (at : ℕ → ℕ) → refuse_at o n at ≡ refuse_at (map at o) n (λ k. k)
-refuse_at_map none n at = refl
-refuse_at_map (some k) n at = refl
+pub refuse_at_map : (o : Option ℕ) (n : Rule) (at : ℕ → ℕ) → refuse_at o n at ≡ refuse_at (option_map at o) n (λ k. k)
+refuse_at_map None n at = refl
+refuse_at_map (Some k) n at = refl
 
-module _ {p : ℕ → Bool} {n k : ℕ} (number : ℕ) (s : Passed p n k) where
-  pub search_found : k < n → p k ≡ true → Refused (refusal number (k + 1)) ≡ refuse_at (first p n) number suc
-  search_found l e = rw add-one (ap (λ (o : Option ℕ). refuse_at o number suc) (passed_found s l e))
+module _ {p : ℕ → Bool} {n k : ℕ} (rule : Rule) (s : Passed p n k) where
+  pub search_found : k < n → p k ≡ true → Err (refusal rule (k + 1)) ≡ refuse_at (first p n) rule suc
+  search_found l e = rw add-one (ap (λ (o : Option ℕ). refuse_at o rule suc) (passed_found s l e))
 
-  pub search_none : n ≤ k → Accepted ≡ refuse_at (first p n) number suc
-  search_none l = ap (λ (o : Option ℕ). refuse_at o number suc) (passed_all s l)
+  pub search_none : n ≤ k → (Ok tt) ≡ refuse_at (first p n) rule suc
+  search_none l = ap (λ (o : Option ℕ). refuse_at o rule suc) (passed_all s l)

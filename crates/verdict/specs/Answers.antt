@@ -1,25 +1,38 @@
--- Answers in 01's terms: the refusal, and the values of each case. Each answer that is an enum has such definitions beside it: `Verdict` and
--- `Written` here, the others in the crate that declares them. In a refused answer every value is zero.
---     said v                    the refusal of a verdict; number 0 and zeros where nothing is refused
---     written_verdict a          what a writer's answer refuses by
---     written_length a           the file's length
+-- Answers in 01's terms: the refusal, and the values of each case. In a refused answer every value is zero.
+--     verdict_of a         what a reader's, a writer's or another call's answer refuses by
+--     Said                number, place, witness and position
+--     refused_for n p a b, refused n p     those of a refusal, with witness and position and without; accepted: number 0 and zeros
+--     said v              those of a verdict's refusal, or `accepted`
+--     written_length a     the length of the file that a writer made
 -- Assumes nothing.
-use Rattle.std.specs.Prelude.{ℕ}
+use Rattle.std.specs.Prelude.{ℕ, Ok, Err, Result}
 use Rattle.verdict.specs.declared.Refusal.{Refusal}
-use Rattle.verdict.specs.declared.Verdict.{Verdict}
-use Rattle.verdict.specs.declared.Verdict.TheVariants.{Accepted, Refused}
-use Rattle.verdict.specs.declared.Written.{Written}
-use Rattle.verdict.specs.declared.Written.TheVariants as written
-use Rattle.verdict.specs.Rules.{refusal}
+use Rattle.verdict.specs.Rules.{number_of, Verdict}
+use Rattle.verdict.specs.Writer.{Written}
 
-abbrev pub said : Verdict → Refusal
-said Accepted = refusal 0 0
-said (Refused r) = r
+abbrev pub verdict_of : {A : Type 0} → Result A Refusal → Verdict
+verdict_of (Ok a) = Ok tt
+verdict_of (Err r) = Err r
 
-abbrev pub written_verdict : Written → Verdict
-written_verdict (written.Length n) = Accepted
-written_verdict (written.Refused r) = Refused r
+pub record Said : Type 0 where
+  pub number : ℕ
+  pub place : ℕ
+  pub witness : ℕ
+  pub position : ℕ
+
+abbrev pub refused_for : ℕ → ℕ → ℕ → ℕ → Said
+refused_for n p a b = record { number = n; place = p; witness = a; position = b }
+
+abbrev pub refused : ℕ → ℕ → Said
+refused n p = refused_for n p 0 0
+
+abbrev pub accepted : Said
+accepted = refused 0 0
+
+abbrev pub said : Verdict → Said
+said (Ok _) = accepted
+said (Err r) = refused_for (number_of r) r.place r.witness r.position
 
 abbrev pub written_length : Written → ℕ
-written_length (written.Length n) = n
-written_length (written.Refused r) = 0
+written_length (Ok n) = n
+written_length (Err r) = 0

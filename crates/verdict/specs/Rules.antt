@@ -1,44 +1,80 @@
 -- Check lists: rules in 01's order, of which the first that fails speaks.
---     witnessed n p a b      the refusal with number n at place p, and with it the witness a and the position b (02, T-07)
---     refusal n p            the same without: both are 0
---     refuse_if bad n p       refuse with n at p where the test bad holds
+--     Verdict                nothing is refused, or the refusal
+--     number x               01's number of a rule; number_of r: of the rule that a refusal names
+--     witnessed x p a b      the refusal by the rule x at place p, and with it the witness a and the position b (02, T-07)
+--     refusal x p            the same without: both are 0
+--     refuse_if bad x p       refuse by x at p where the test bad holds
 --     refuse_by found say     refuse with what is said of what a search found
---     refuse_at found n at    refuse with n at the place of what a search found
+--     refuse_at found x at    refuse by x at the place of what a search found
 --     or_else v w             the first verdict where it refuses, else the second
 --     judge rules            the first refusal of the list, in its order
 --     is_accepted v           the verdict refuses nothing
+--     result_of v a           a where the verdict refuses nothing, else its refusal
 -- Assumes nothing.
-use Rattle.std.specs.Prelude.{Bool, true, false, List, [], ◌∷◌, ℕ}
-use Rattle.std.proofs.Math.Option.{Option, none, some}
+use Rattle.std.specs.Prelude.{Bool, true, false, List, [], ◌∷◌, ℕ, Option, None, Some, Ok, Err, Result}
 use Rattle.verdict.specs.declared.Refusal.{Refusal}
-use Rattle.verdict.specs.declared.Verdict.{Verdict}
-use Rattle.verdict.specs.declared.Verdict.TheVariants.{Accepted, Refused}
+use Rattle.verdict.specs.declared.Rule.{Rule}
+use Rattle.verdict.specs.declared.Rule.TheVariants as why
 
-abbrev pub witnessed : ℕ → ℕ → ℕ → ℕ → Refusal
-witnessed n p a b = record { number = n; place = p; witness = a; position = b }
+abbrev pub Verdict : Type 0
+Verdict = Result Unit Refusal
 
-abbrev pub refusal : ℕ → ℕ → Refusal
-refusal n p = witnessed n p 0 0
+abbrev pub number : Rule → ℕ
+number why.NumberEnds = 1
+number why.NumberForm = 2
+number why.ElementCount = 3
+number why.ElementRange = 4
+number why.ElementsDisjoint = 5
+number why.PersistentRange = 6
+number why.NotPersistent = 7
+number why.BytesLeft = 8
+number why.HeaderForm = 9
+number why.SizeRange = 10
+number why.RasterLength = 11
+number why.PixelValue = 12
+number why.AreaShort = 13
+number why.Unsound = 14
+number why.NotCollected = 15
+number why.NothingLoaded = 16
+number why.NotStable = 17
+number why.RankCount = 18
+number why.Parts = 23
+number why.AllowanceSpent = 24
+number why.QuotaRange = 25
+number why.SizesDiffer = 26
 
-abbrev pub refuse_if : Bool → ℕ → ℕ → Verdict
-refuse_if true n p = Refused (refusal n p)
-refuse_if false n p = Accepted
+abbrev pub number_of : Refusal → ℕ
+number_of r = number r.rule
+
+abbrev pub witnessed : Rule → ℕ → ℕ → ℕ → Refusal
+witnessed x p a b = record { rule = x; place = p; witness = a; position = b }
+
+abbrev pub refusal : Rule → ℕ → Refusal
+refusal x p = witnessed x p 0 0
+
+abbrev pub refuse_if : Bool → Rule → ℕ → Verdict
+refuse_if true x p = Err (refusal x p)
+refuse_if false x p = Ok tt
 
 abbrev pub refuse_by : Option ℕ → (ℕ → Refusal) → Verdict
-refuse_by none say = Accepted
-refuse_by (some k) say = Refused (say k)
+refuse_by None say = Ok tt
+refuse_by (Some k) say = Err (say k)
 
-abbrev pub refuse_at : Option ℕ → ℕ → (ℕ → ℕ) → Verdict
-refuse_at found n at = refuse_by found (λ k. refusal n (at k))
+abbrev pub refuse_at : Option ℕ → Rule → (ℕ → ℕ) → Verdict
+refuse_at found x at = refuse_by found (λ k. refusal x (at k))
 
 abbrev pub or_else : Verdict → Verdict → Verdict
-or_else Accepted w = w
-or_else (Refused r) w = Refused r
+or_else (Ok _) w = w
+or_else (Err r) w = Err r
 
 abbrev pub judge : List Verdict → Verdict
-judge [] = Accepted
+judge [] = Ok tt
 judge (v ∷ vs) = or_else v (judge vs)
 
 abbrev pub is_accepted : Verdict → Bool
-is_accepted Accepted = true
-is_accepted (Refused r) = false
+is_accepted (Ok _) = true
+is_accepted (Err r) = false
+
+abbrev pub result_of : {A : Type 0} → Verdict → A → Result A Refusal
+result_of (Ok _) a = Ok a
+result_of (Err r) a = Err r

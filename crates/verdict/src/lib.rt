@@ -1,101 +1,92 @@
-// What a check or a writer answers, and 01's refusal numbers by name.
+// What a check or a writer answers, and the rules of 01 by which it refuses.
 #![tactic(auto)]
 
 ghost use Rattle.std.specs.Prelude.{◌≡◌};
 ghost use Rattle.verdict.specs.Rules;
+ghost use Rattle.verdict.specs.Rules.{number};
 
-// A refusal: number and place. Of 5 and 7 also where exactly the table is bad: the witness of 5 is an earlier element, that of 7 the rank of a
-// persistent element, and the position is one of its positions. In every other refusal both are zero.
-#[derive(Clone, Copy)]
+// 01's rules, by which input and calls are refused, with their numbers.
+#[derive(Clone, Copy, PartialEq, Eq)]
+pub enum Rule {
+    NumberEnds = 1,
+    NumberForm = 2,
+    ElementCount = 3,
+    ElementRange = 4,
+    ElementsDisjoint = 5,
+    PersistentRange = 6,
+    NotPersistent = 7,
+    BytesLeft = 8,
+    HeaderForm = 9,
+    SizeRange = 10,
+    RasterLength = 11,
+    PixelValue = 12,
+    AreaShort = 13,
+    Unsound = 14,
+    NotCollected = 15,
+    NothingLoaded = 16,
+    NotStable = 17,
+    RankCount = 18,
+    Parts = 23,
+    AllowanceSpent = 24,
+    QuotaRange = 25,
+    SizesDiffer = 26,
+}
+
+impl Rule {
+    pub fn number(self) -> u32
+        ensures { result ≡ number self }
+    {
+        self as u32
+    }
+}
+
+// A refusal: rule and place. Of 5 and 7 also where exactly the table is bad: the witness of 5 is an earlier element, that of 7 the rank of a
+// persistent element, and the position is one of its positions. In every other refusal both are zero: C's answer has all four, and table/Witness speaks of them.
+#[derive(Clone, Copy, PartialEq, Eq)]
 pub struct Refusal {
-    pub number: u32,
+    pub rule: Rule,
     pub place: usize,
     pub witness: usize,
     pub position: usize,
 }
 
-#[derive(Clone, Copy)]
-pub enum Verdict {
-    Accepted,
-    Refused(Refusal),
-}
+// Nothing is wrong, or the refusal.
+pub type Verdict = Result<(), Refusal>;
 
 // A writer's answer: the file's length, or the refusal.
-#[derive(Clone, Copy)]
-pub enum Written {
-    Length(usize),
-    Refused(Refusal),
-}
+pub type Written = Result<usize, Refusal>;
 
-pub fn refusal_of(number: u32, place: usize) -> Refusal
-    ensures { result ≡ Rules.refusal number place }
+pub fn refusal_of(rule: Rule, place: usize) -> Refusal
+    ensures { result ≡ Rules.refusal rule place }
 {
-    witnessed(number, place, 0, 0)
+    witnessed(rule, place, 0, 0)
 }
 
-fn witnessed(number: u32, place: usize, witness: usize, position: usize) -> Refusal
-    ensures { result ≡ Rules.witnessed number place witness position }
+fn witnessed(rule: Rule, place: usize, witness: usize, position: usize) -> Refusal
+    ensures { result ≡ Rules.witnessed rule place witness position }
 {
     Refusal {
-        number,
+        rule,
         place,
         witness,
         position,
     }
 }
 
-pub fn refused(number: u32, place: usize) -> Verdict
-    ensures { result ≡ Verdict.Refused (Rules.refusal number place) }
+// The refusal as the answer of any check, reader or writer.
+pub fn refused<T>(rule: Rule, place: usize) -> Result<T, Refusal>
+    ensures { result ≡ Err (Rules.refusal rule place) }
 {
-    Verdict::Refused(refusal_of(number, place))
+    Err(refusal_of(rule, place))
 }
 
-pub fn refused_for(number: u32, place: usize, witness: usize, position: usize) -> Verdict
-    ensures { result ≡ Verdict.Refused (Rules.witnessed number place witness position) }
+pub fn refused_for<T>(
+    rule: Rule,
+    place: usize,
+    witness: usize,
+    position: usize,
+) -> Result<T, Refusal>
+    ensures { result ≡ Err (Rules.witnessed rule place witness position) }
 {
-    Verdict::Refused(witnessed(number, place, witness, position))
+    Err(witnessed(rule, place, witness, position))
 }
-
-pub const NUMBER_ENDS: u32 = 1;
-
-pub const NUMBER_FORM: u32 = 2;
-
-pub const ELEMENT_COUNT: u32 = 3;
-
-pub const ELEMENT_RANGE: u32 = 4;
-
-pub const ELEMENTS_DISJOINT: u32 = 5;
-
-pub const PERSISTENT_RANGE: u32 = 6;
-
-pub const NOT_PERSISTENT: u32 = 7;
-
-pub const BYTES_LEFT: u32 = 8;
-
-pub const HEADER_FORM: u32 = 9;
-
-pub const SIZE_RANGE: u32 = 10;
-
-pub const RASTER_LENGTH: u32 = 11;
-
-pub const PIXEL_VALUE: u32 = 12;
-
-pub const AREA_SHORT: u32 = 13;
-
-pub const UNSOUND: u32 = 14;
-
-pub const NOT_COLLECTED: u32 = 15;
-
-pub const NOTHING_LOADED: u32 = 16;
-
-pub const NOT_STABLE: u32 = 17;
-
-pub const RANK_COUNT: u32 = 18;
-
-pub const PARTS: u32 = 23;
-
-pub const ALLOWANCE_SPENT: u32 = 24;
-
-pub const QUOTA_RANGE: u32 = 25;
-
-pub const SIZES_DIFFER: u32 = 26;

@@ -7,12 +7,12 @@ use Rattle.capi.proofs.mask_view.Goals as goal
 
 pub overflow_mul-result : goal.overflow_mul-result
 overflow_mul-result c =
-    record { fits = omega (arith, ready_small (accepted_ready _ (sym c.view_verdict-checked.ensures ∙ c.in-Accepted.is))) }
+    record { fits = omega (arith, ready_small (accepted_ready _ (sym c.view_verdict-checked.ensures ∙ c.in-Ok.is))) }
 
-pub returns-in-Refused : goal.returns-in-Refused
-returns-in-Refused c =
-    rw c.of_verdict.ensures (part_refused _ (sym c.view_verdict-checked.ensures ∙ c.in-Refused.is))
+pub returns-in-Err : goal.returns-in-Err
+returns-in-Err c =
+    rw c.of_verdict.ensures (part_refused _ (sym c.view_verdict-checked.ensures ∙ c.in-Err.is))
 
-pub returns-in-Accepted : goal.returns-in-Accepted
-returns-in-Accepted c =
-    rw c.of_verdict-in-Accepted.ensures (part_accepted _ (sym c.view_verdict-checked.ensures ∙ c.in-Accepted.is) c.holder.ensures)
+pub returns-in-Ok : goal.returns-in-Ok
+returns-in-Ok c =
+    rw c.of_verdict-in-Ok.ensures (part_accepted _ (sym c.view_verdict-checked.ensures ∙ c.in-Ok.is) c.holder.ensures)

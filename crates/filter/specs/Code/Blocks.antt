@@ -1,5 +1,5 @@
 -- One pass over the plane (the module `blocks`).
---     Room w h plane flips changed     sizes that a pass works on, and room for its flips and marks
+--     Room h plane flips               room for the rows of an image and for its flips
 --     Scene t w h img es ms plane      the plane has the image, and the masks are those of the table
 --     Untouched top rows d f c e       the flips d become f and the marks c become e, in the rows from top on only
 --     Advanced t w h img plane e a d   after a pass on img the plane has the next image, a pixels were added and d removed, and no pixel changed in a row that e does not mark
@@ -10,19 +10,14 @@ use Rattle.std.specs.Prelude.{List, ◌≡◌, ℕ, ◌+◌, ◌*◌, ◌≤◌,
 use Rattle.filter.specs.Applied.{switches, switched}
 use Rattle.filter.specs.Code.Plane.{band, step, rim, Packed}
 use Rattle.filter.specs.Code.Turn.{Still}
-use Rattle.image.specs.Size.{max_side}
 use Rattle.operator.specs.Image.{pixel, IsImage, added, removed}
 use Rattle.table.specs.declared.Table.{Table}
 use Rattle.table.specs.Record.{masks, persistents}
 use Rattle.verdict.specs.Writer.{over}
 
-pub record Room (w h : ℕ) (plane flips changed : List ℕ) : Type 0 where
-  pub wide : 1 ≤ w
-  pub narrow : w ≤ max_side
-  pub low : h ≤ max_side
+pub record Room (h : ℕ) (plane flips : List ℕ) : Type 0 where
   pub plane_long : step * (h + 2 * rim) ≤ length plane
   pub flips_long : band * h ≤ length flips
-  pub marks_long : h + 2 * rim ≤ length changed
 
 pub record Scene (t : Table) (w h : ℕ) (img es ms plane : List ℕ) : Type 0 where
   pub elements : masks t ≡ es

@@ -5,7 +5,7 @@
 --     Added e d f n m               f has the first n shifts of d and, among its first m, a pair of the element e; at most two are new
 --     Evened d f n m                f has the first n shifts of d and, up to a multiple m of four, some of them again
 --     Parts es at                   all shifts are those of positions of the only element; or every element has such a pair among them
---     pairs_of l a b c d e j         byte j of e with the bits that l has at both shifts a and b, or at both c and d
+--     paired o a b c d               o with the bits that a and b have, or c and d
 --     Joined at n size l e          byte j < size of e has bit s where l has it at both shifts of some pair among the first n
 --     candidate_is hit map from plane at k l v    byte k of a row, lane l: hit for v, of the other value, and not opened for that
 --     Narrowed hit map from plane at d f to b    f is d with these candidates in the row of bytes at to, and b says whether there are any
@@ -56,8 +56,8 @@ pub record Parts (es at : List ℕ) : Type 0 where
   pub alone : length es ≡ 1 → (a : ℕ) → Memᴰ a at → (b : ℕ) × Memᴰ b (positions (get_or es 0 0)) × (a ≡ shift b)
   pub each : (length es ≡ 1 → ⊥) → (e : ℕ) → Memᴰ e es → (i : ℕ) × Pair at i e
 
-abbrev pub pairs_of : List ℕ → ℕ → ℕ → ℕ → ℕ → List ℕ → ℕ → ℕ
-pairs_of l a b c d e j = bit_or (get_or e j 0) (bit_or (bit_and (get_or l (a + j) 0) (get_or l (b + j) 0)) (bit_and (get_or l (c + j) 0) (get_or l (d + j) 0)))
+abbrev pub paired : ℕ → ℕ → ℕ → ℕ → ℕ → ℕ
+paired o a b c d = bit_or o (bit_or (bit_and a b) (bit_and c d))
 
 pub record Joined (at : List ℕ) (n size : ℕ) (l e : List ℕ) : Type 0 where
   pub coded : (i j s : ℕ) → 2 * i + 1 < n → j < size → bit (get_or l (get_or at (2 * i) 0 + j) 0) s ≡ true

@@ -2,39 +2,33 @@
 --     holding n a b              of two areas the one that holds the image after n passes: the first where n is even
 --     trail_of a b n x y          the trail after n passes that added x and removed y, from the areas as they stand
 --     Put n w h marks plane a b x y   the areas a and b become x and y: the plane's image in the marked rows of the one that does not hold the image
---     RunRoom ..                 sizes that passes work on, and room in every memory
+--     RunRoom w h plane flips a b      room in every memory
 --     Running t w h b c₀ es ms plane dirty stale c     where the passes stand: what is left of those from c₀ is what follows c; the plane has c's image, no row that is
 --                                not dirty changes in the next pass, and no row that is not stale differs between the areas
 --     Settled n w h plane e d d' s s' a b x y     after a pass that marked e: the dirty rows d and the stale rows s become d' and s', and the areas a and b become x and y
---     way_of b n u k              how passes go on after n of them that changed u pixels, when the next one changes k
---     Acted way ..               what is written then: the new image and the marks, the image alone, or nothing
+--     overruns b n u k           after n passes that changed u pixels, one more that changes k is above what the budget b allows
 --     Within b u r               a pass that is made keeps within the budget
 --     Went ..                    one pass more: where the passes stand then, or how they have ended
---     end_of way, ended n x y way     why passes end, and the answer
+--     ended n x y e              the answer where passes end by e
 --     EndedAs e r x y            r, x and y are the answer and the areas of the end e
 --     Followed es ms w h b c r x y   r, x and y are the answer and the areas after the passes from c, for every accepted table that has these masks
 -- Assumes nothing.
-use Rattle.std.specs.Prelude.{cond, ◌||◌, List, ◌≡◌, ℕ, ◌+◌, ◌-◌, ◌*◌, ◌%◌, ◌≤◌, ltb, eqb, length, get_or}
+use Rattle.std.specs.Prelude.{cond, ◌||◌, List, ◌≡◌, ℕ, ◌+◌, ◌-◌, ◌*◌, ◌%◌, ◌≤◌, ltb, eqb, length, get_or, Bool, Result, Ok, Err, IfOk}
 use Rattle.std.specs.Int.Bits.{bit_or}
 use Rattle.filter.specs.declared.Budget.{Budget}
+use Rattle.filter.specs.declared.Changes.{Changes}
 use Rattle.filter.specs.declared.End.{End}
-use Rattle.filter.specs.declared.End.TheVariants as ending
 use Rattle.filter.specs.declared.Repeated.{Repeated}
-use Rattle.filter.specs.declared.run.Turn.{Turn}
-use Rattle.filter.specs.declared.run.Way.{Way}
-use Rattle.filter.specs.declared.run.Way.TheVariants as way
 use Rattle.filter.specs.Applied.{switches}
 use Rattle.filter.specs.Code.Blocks.{Room, Scene, Fresh}
 use Rattle.filter.specs.Code.Plane.{rim, Packed, Shown}
 use Rattle.filter.specs.Code.Rows.{nearby, Spread}
 use Rattle.filter.specs.Code.Turn.{Still}
 use Rattle.filter.specs.Repeated.{Trail, Ended, shown, follow, answered, first_area, second_area}
-use Rattle.image.specs.Size.{max_pixels}
 use Rattle.operator.specs.Image.{IsImage}
 use Rattle.seq.specs.Loops.{Swept}
 use Rattle.table.specs.declared.Table.{Table}
 use Rattle.table.specs.Record.{masks, persistents, record_verdict}
-use Rattle.verdict.specs.declared.Verdict.TheVariants.{Accepted}
 
 abbrev pub holding : ℕ → List ℕ → List ℕ → List ℕ
 holding n a b = cond (eqb (n % 2) 0) a b
@@ -42,10 +36,8 @@ holding n a b = cond (eqb (n % 2) 0) a b
 abbrev pub trail_of : List ℕ → List ℕ → ℕ → ℕ → ℕ → Trail
 trail_of a b n x y = record { here = holding n a b; there = holding n b a; passes = n; added = x; removed = y }
 
-pub record RunRoom (w h : ℕ) (plane flips changed dirty stale first second : List ℕ) : Type 0 where
-  pub room : Room w h plane flips changed
-  pub dirty_long : h ≤ length dirty
-  pub stale_long : h ≤ length stale
+pub record RunRoom (w h : ℕ) (plane flips first second : List ℕ) : Type 0 where
+  pub room : Room h plane flips
   pub first_long : w * h ≤ length first
   pub second_long : w * h ≤ length second
 
@@ -60,7 +52,7 @@ EndedAs e r x y = (r ≡ answered e) × (x ≡ first_area e) × (y ≡ second_ar
 
 abbrev pub Followed : List ℕ → List ℕ → ℕ → ℕ → Budget → Trail → Repeated → List ℕ → List ℕ → Type 0
 Followed es ms w h b c r x y =
-    (t : Table) → masks t ≡ es → persistents t ≡ ms → record_verdict t ≡ Accepted → EndedAs (follow t w h b b.limit c) r x y
+    (t : Table) → masks t ≡ es → persistents t ≡ ms → record_verdict t ≡ Ok tt → EndedAs (follow t w h b b.limit c) r x y
 
 pub record Put (n w h : ℕ) (marks plane a b x y : List ℕ) : Type 0 where
   pub kept : holding n x y ≡ holding n a b
@@ -74,27 +66,16 @@ pub record Settled (n w h : ℕ) (plane e d d' s s' a b x y : List ℕ) : Type 0
   pub stale : Swept (λ j. get_or e (rim + (j - 0)) 0) both s' 0 (0 + h)
   pub dirty : Spread nearby e h d d'
 
-abbrev pub end_of : Way → End
-end_of way.Onward = ending.Limit
-end_of way.Rests = ending.Stable
-end_of way.Full = ending.Full
+abbrev pub ended : ℕ → ℕ → ℕ → End → Repeated
+ended n x y e = record { passes = n; added = x; removed = y; end = e }
 
-abbrev pub ended : ℕ → ℕ → ℕ → Way → Repeated
-ended n x y way = record { passes = n; added = x; removed = y; end = end_of way }
+abbrev pub overruns : Budget → ℕ → ℕ → ℕ → Bool
+overruns b n u k = ltb b.most (n + 1) || ltb b.room (u + k)
 
-unfoldable pub way_of : Budget → ℕ → ℕ → ℕ → Way
-way_of b n u k = cond (eqb k 0) way.Rests (cond (ltb b.most (n + 1) || ltb b.room (u + k)) way.Full way.Onward)
+abbrev pub Within : Budget → ℕ → Result Changes End → Type 0
+Within b u r = IfOk r (λ m. u + (m.added + m.removed) ≤ b.room)
 
-abbrev pub Acted : Way → ℕ → ℕ → ℕ → List ℕ → List ℕ → List ℕ → List ℕ → List ℕ → List ℕ → List ℕ → List ℕ → List ℕ → List ℕ → Type 0
-Acted way.Onward n w h plane e d d' s s' a b x y = Settled n w h plane e d d' s s' a b x y
-Acted way.Rests n w h plane e d d' s s' a b x y = Put n w h s plane a b x y
-Acted way.Full n w h plane e d d' s s' a b x y = (x ≡ a) × (y ≡ b)
-
-pub record Within (b : Budget) (u : ℕ) (r : Turn) : Type 0 where
-  pub few : (r.added ≤ max_pixels) × (r.removed ≤ max_pixels)
-  pub within : r.way ≡ way.Onward → u + (r.added + r.removed) ≤ b.room
-
-abbrev pub Went : Table → ℕ → ℕ → Budget → Trail → List ℕ → List ℕ → ℕ → ℕ → ℕ → Turn → List ℕ → List ℕ → List ℕ → List ℕ → List ℕ → Type 0
-Went t w h b c₀ es ms n x y r plane dirty stale first second =
-    (r.way ≡ way.Onward → Running t w h b c₀ es ms plane dirty stale (trail_of first second (n + 1) (x + r.added) (y + r.removed)))
-    × ((r.way ≡ way.Onward → ⊥) → EndedAs (follow t w h b b.limit c₀) (ended n x y r.way) first second)
+abbrev pub Went : Table → ℕ → ℕ → Budget → Trail → List ℕ → List ℕ → ℕ → ℕ → ℕ → Result Changes End → List ℕ → List ℕ → List ℕ → List ℕ → List ℕ → Type 0
+Went t w h b c₀ es ms n x y (Ok m) plane dirty stale first second =
+    Running t w h b c₀ es ms plane dirty stale (trail_of first second (n + 1) (x + m.added) (y + m.removed))
+Went t w h b c₀ es ms n x y (Err e) plane dirty stale first second = EndedAs (follow t w h b b.limit c₀) (ended n x y e) first second

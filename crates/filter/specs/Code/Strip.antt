@@ -8,7 +8,7 @@
 --     RowsMade t w h px from n d l x y     and they stand in l at their own place; outside of it l is d
 --     totalled c                       what a pass answers that changed the parts so
 -- Assumes nothing.
-use Rattle.std.specs.Prelude.{cond, ◌&&◌, List, ◌≡◌, ℕ, ◌+◌, ◌*◌, ◌≤◌, eqb, length, get_or, take, drop}
+use Rattle.std.specs.Prelude.{cond, ◌&&◌, List, ◌≡◌, ℕ, ◌+◌, ◌*◌, ◌≤◌, eqb, length, get_or, take, drop, Ok}
 use Rattle.filter.specs.declared.Crossed.{Crossed}
 use Rattle.filter.specs.declared.End.TheVariants as ending
 use Rattle.image.specs.declared.strip.PartCounts.{PartCounts}
@@ -23,7 +23,6 @@ use Rattle.seq.specs.Loops.{Swept}
 use Rattle.seq.specs.Tab.{up_to}
 use Rattle.table.specs.declared.Table.{Table}
 use Rattle.table.specs.Record.{record_verdict}
-use Rattle.verdict.specs.declared.Verdict.TheVariants.{Accepted}
 
 abbrev pub row_limit : ℕ
 row_limit = 128
@@ -42,7 +41,7 @@ pub record Counted (a : List ℕ) (i : ℕ) (b : List ℕ) (j n x y : ℕ) : Typ
   pub less : y ≡ lost a i b j n
 
 pub record Tall (t : Table) (w h : ℕ) (px : List ℕ) : Type 0 where
-  pub table : record_verdict t ≡ Accepted
+  pub table : record_verdict t ≡ Ok tt
   pub image : IsImage w h px
   pub narrow : w ≤ max_side
   pub low : h ≤ max_rows

@@ -3,12 +3,11 @@
 --     Binary px                every pixel byte is 0 or 1, as rule 12 leaves them
 --     too_large px i            pixel byte i is above 1
 --     byte_pixel b k            pixel k of a byte, the leftmost the highest bit
---     row_pixel r from c        pixel c of the row whose bytes start at an index of the raster
---     pixel_in px from n k      pixel k of the n pixels from an index on, 0 past them
---     packed_row px from w j    byte j of the row of w pixels from an index on
+--     row_pixel bytes c         pixel c of a row, by its bytes
+--     packed_row row j          byte j of a row, by its pixels
 --     raster_of w h px          the rows of the file of an image
 -- Assumes nothing.
-use Rattle.std.specs.Prelude.{Bool, cond, List, ℕ, ◌+◌, ◌-◌, ◌*◌, ◌/◌, ◌%◌, ◌^◌, ◌≤◌, ltb, get_or}
+use Rattle.std.specs.Prelude.{Bool, List, ℕ, ◌+◌, ◌-◌, ◌*◌, ◌/◌, ◌%◌, ◌^◌, ◌≤◌, ltb, get_or}
 use Rattle.image.specs.File.{packed, row_byte}
 use Rattle.image.specs.Size.{max_side, row_bytes}
 use Rattle.seq.specs.Tab.{tab}
@@ -28,14 +27,11 @@ too_large px i = ltb 1 (get_or px i 0)
 abbrev pub byte_pixel : ℕ → ℕ → ℕ
 byte_pixel b k = b / 2 ^ (7 - k) % 2
 
-abbrev pub row_pixel : List ℕ → ℕ → ℕ → ℕ
-row_pixel r from c = byte_pixel (get_or r (from + c / 8) 0) (c % 8)
+abbrev pub row_pixel : List ℕ → ℕ → ℕ
+row_pixel bytes c = byte_pixel (get_or bytes (c / 8) 0) (c % 8)
 
-abbrev pub pixel_in : List ℕ → ℕ → ℕ → ℕ → ℕ
-pixel_in px from n k = cond (ltb k n) (get_or px (from + k) 0) 0
-
-abbrev pub packed_row : List ℕ → ℕ → ℕ → ℕ → ℕ
-packed_row px from w j = packed (λ k. pixel_in px from w (8 * j + k))
+abbrev pub packed_row : List ℕ → ℕ → ℕ
+packed_row row j = packed (λ k. get_or row (8 * j + k) 0)
 
 abbrev pub raster_of : ℕ → ℕ → List ℕ → List ℕ
 raster_of w h px = tab (λ i. row_byte w px (i / row_bytes w) (i % row_bytes w)) (row_bytes w * h)

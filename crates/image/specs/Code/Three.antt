@@ -7,8 +7,7 @@
 -- Assumes nothing.
 use Rattle.std.specs.Prelude.{List, ℕ, ◌-◌, length, get_or, drop}
 use Rattle.std.specs.Int.Bits.{bit_and, bit_or}
-use Rattle.image.specs.declared.ImageRead.{ImageRead}
-use Rattle.image.specs.File.{file_verdict, read_as}
+use Rattle.image.specs.File.{file_verdict, read_as, ImageRead}
 use Rattle.image.specs.Header.{width_of, height_of}
 use Rattle.image.specs.Majority.{three_verdict}
 use Rattle.seq.specs.Tab.{tab}

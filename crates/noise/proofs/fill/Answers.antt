@@ -2,7 +2,7 @@
 use Rattle.std.proofs.Common.{◌≡◌, false, sym, ◌∙◌, arith}
 use Rattle.image.proofs.RowBytes.{pixels_few, sides}
 use Rattle.image.specs.Size.{bad_size}
-use Rattle.noise.proofs.Filling.{noise_bad, noise_short, noise_filled}
+use Rattle.noise.proofs.Filling.{image_over, noise_bad, noise_short, noise_filled}
 use Rattle.noise.proofs.fill.Goals as goal
 
 pub returns-then-is_bad : goal.returns-then-is_bad
@@ -21,4 +21,4 @@ returns-then-area-count c =
 pub returns : goal.returns
 returns c =
     let good : bad_size c.args.width c.args.height ≡ false = sym c.is_bad.ensures ∙ c.if-is_bad.false in
-    noise_filled _ _ _ _ good c.if-area-count.false c.draw.ensures
+    noise_filled _ _ _ _ good c.if-area-count.false (image_over _ _ c.if-area-count.false c.draw.ensures)

@@ -6,5 +6,5 @@ use Rattle.filter.proofs.apply.by_masks.Goals as goal
 pub returns : goal.returns
 returns c =
     λ t e k.
-    let made = c.advance-changes.ensures.2 t _ (record { elements = e; kept = k; image = c.requires.2; packed = c.pack.ensures }) (still_all c.requires.4 c.all_rows-all.ensures _ _) in
-    filtered c.requires.2 c.requires.4 c.requires.5 c.all_rows-all.ensures made (c.show.ensures _ (switched_image t c.requires.2) made.packed)
+    let made = c.advance-changes.ensures.2 t _ (record { elements = e; kept = k; image = c.requires.2; packed = c.pack.ensures }) (still_all c.args.sides.low c.all_rows-all.ensures _ _) in
+    filtered c.requires.2 c.args.sides.low c.requires.3 c.all_rows-all.ensures made (c.show.ensures _ (switched_image t c.requires.2) made.packed)

@@ -1,7 +1,7 @@
 -- `apply::repeat` meets its contract: what is refused, then the passes on one plane.
 -- Assumes nothing.
-use mathlib.Core.Path.{sym, ◌∙◌}
-use Prim.Native.Nat.{◌≤◌}
+use Rattle.std.proofs.lemmas.Result.{err_from_is_err_and}
+use mathlib.Core.Path.{refl, sym, ◌∙◌}
 use native.Mathlib.Omega.{arith}
 use lib.ListN.{length}
 use lib.Seq.{length-take-le}
@@ -9,46 +9,39 @@ use Rattle.filter.proofs.PassCodeChecks.{accepted_ranged, ranged_count, ranged_r
 use Rattle.filter.proofs.RepeatLaws.{Admitted, admitted, repeat_refused, repeat_made}
 use Rattle.filter.proofs.apply.repeat.Goals as goal
 
-pub returns-in-Refused : goal.returns-in-Refused
-returns-in-Refused c = repeat_refused _ _ _ _ _ _ (sym c.admit-admitted.ensures ∙ c.in-Refused.is)
+pub returns-in_err-admit : goal.returns-in_err-admit
+returns-in_err-admit c =
+    let p = err_from_is_err_and c.from_residual.result c.from_residual.ensures.1 in
+    rw (p.1, p.2) (repeat_refused _ _ _ _ _ _ (sym c.admit.ensures ∙ c.in_err-admit.was))
 
-pub slice_bounds-elements-end : goal.slice_bounds-elements-end
-slice_bounds-elements-end c =
-    let facts : Admitted c.args.table c.args.width c.args.height c.args.first.now (length c.args.second.now) = admitted _ _ _ _ _ (sym c.admit-admitted.ensures ∙ c.in_default.is) in
-    omega (arith, ranged_count _ (accepted_ranged _ facts.table), c.places-elements.type_inv)
+pub shared_ref_as_front-run : goal.shared_ref_as_front-run
+shared_ref_as_front-run c =
+    let facts : Admitted c.args.table c.args.width c.args.height c.args.first.now (length c.args.second.now) = admitted _ _ _ _ _ (sym c.admit.ensures ∙ c.in_ok-admit.was) in
+    ranged_count _ (accepted_ranged _ facts.table)
 
-pub slice_bounds-run-end : goal.slice_bounds-run-end
-slice_bounds-run-end c =
-    let facts : Admitted c.args.table c.args.width c.args.height c.args.first.now (length c.args.second.now) = admitted _ _ _ _ _ (sym c.admit-admitted.ensures ∙ c.in_default.is) in
-    sym (length-take-le _ _ ((omega (arith, ranged_count _ (accepted_ranged _ facts.table), c.places-elements.type_inv))))
-
-pub slice_bounds-persistents-end : goal.slice_bounds-persistents-end
-slice_bounds-persistents-end c =
-    let facts : Admitted c.args.table c.args.width c.args.height c.args.first.now (length c.args.second.now) = admitted _ _ _ _ _ (sym c.admit-admitted.ensures ∙ c.in_default.is) in
-    omega (arith, ranged_ranks _ (accepted_ranged _ facts.table), c.ranked-persistents.type_inv)
-
-pub slice_bounds-run-end-2 : goal.slice_bounds-run-end-2
-slice_bounds-run-end-2 c =
-    let facts : Admitted c.args.table c.args.width c.args.height c.args.first.now (length c.args.second.now) = admitted _ _ _ _ _ (sym c.admit-admitted.ensures ∙ c.in_default.is) in
-    sym (length-take-le _ _ ((omega (arith, ranged_ranks _ (accepted_ranged _ facts.table), c.ranked-persistents.type_inv))))
+pub shared_ref_as_front-run-2 : goal.shared_ref_as_front-run-2
+shared_ref_as_front-run-2 c =
+    let facts : Admitted c.args.table c.args.width c.args.height c.args.first.now (length c.args.second.now) = admitted _ _ _ _ _ (sym c.admit.ensures ∙ c.in_ok-admit.was) in
+    ranged_ranks _ (accepted_ranged _ facts.table)
 
 pub run-requires : goal.run-requires
 run-requires c =
-    let facts : Admitted c.args.table c.args.width c.args.height c.args.first.now (length c.args.second.now) = admitted _ _ _ _ _ (sym c.admit-admitted.ensures ∙ c.in_default.is) in
-    let f = facts in
-    let in_range = accepted_ranged _ f.table in
-    let few : c.args.table.count ≤ length c.places-elements.result = omega (arith, ranged_count _ (accepted_ranged _ facts.table), c.places-elements.type_inv) in (
-      rw (elements_part c.args.table c.places-elements.ensures) (ranged_valid _ in_range),
-      rw (length-take-le _ _ few) (ranged_count _ in_range),
-      f.image,
-      f.narrow,
-      f.low,
-      f.first_long,
-      f.second_long,
+    let facts : Admitted c.args.table c.args.width c.args.height c.args.first.now (length c.args.second.now) = admitted _ _ _ _ _ (sym c.admit.ensures ∙ c.in_ok-admit.was) in
+    let in_range = accepted_ranged _ facts.table in (
+      rw (elements_part c.args.table refl) (ranged_valid _ in_range),
+      omega (arith, length-take-le c.args.table.count c.args.table.elements (omega (arith, ranged_count _ in_range)), ranged_count _ in_range),
+      facts.image,
+      facts.first_long,
+      facts.second_long,
     )
+
+pub invariant_of-run : goal.invariant_of-run
+invariant_of-run c =
+    let facts : Admitted c.args.table c.args.width c.args.height c.args.first.now (length c.args.second.now) = admitted _ _ _ _ _ (sym c.admit.ensures ∙ c.in_ok-admit.was) in
+    record { wide = facts.image.wide; narrow = facts.narrow; low = facts.low }
 
 pub returns : goal.returns
 returns c =
-    let facts : Admitted c.args.table c.args.width c.args.height c.args.first.now (length c.args.second.now) = admitted _ _ _ _ _ (sym c.admit-admitted.ensures ∙ c.in_default.is) in
-    repeat_made _ _ _ _ _ _ (sym c.admit-admitted.ensures ∙ c.in_default.is)
-    (c.run.ensures _ (sym (elements_part _ c.places-elements.ensures)) (sym (persistents_part _ c.ranked-persistents.ensures)) facts.table)
+    let facts : Admitted c.args.table c.args.width c.args.height c.args.first.now (length c.args.second.now) = admitted _ _ _ _ _ (sym c.admit.ensures ∙ c.in_ok-admit.was) in
+    repeat_made _ _ _ _ _ _ (sym c.admit.ensures ∙ c.in_ok-admit.was)
+    (c.run.ensures _ (sym (elements_part _ refl)) (sym (persistents_part _ refl)) facts.table)

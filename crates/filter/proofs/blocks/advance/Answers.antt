@@ -8,5 +8,5 @@ returns c = (
   c.turn.ensures.0,
   c.turn.ensures.1,
   λ t img s still.
-      turned_advanced (c.turn.ensures.2 _ _ _ s.image c.requires.3.narrow s.packed (c.judge.ensures.1 t img s still)),
+      turned_advanced (c.turn.ensures.2 _ _ _ s.image c.args.sides.narrow s.packed (c.judge.ensures.1 t img s still)),
 )

@@ -6,7 +6,7 @@ use Rattle.filter.proofs.blocks.judge.Given as goal
 
 abbrev pub invariant-loop-top : goal.invariant-loop-top
 invariant-loop-top l =
-    Half l.elements l.masks l.width l.height l.dirty l.plane l.initial.flips l.initial.changed l.flips l.changed l.top
+    Half l.masks.elements.now l.masks.persistents.now l.sides.width l.sides.height l.dirty l.plane l.initial.flips l.initial.scratch.changed l.flips l.scratch.changed l.top
 
 abbrev pub decreases-loop-top : goal.decreases-loop-top
 decreases-loop-top l =

@@ -7,6 +7,3 @@ use Rattle.filter.proofs.candidate.ends.Given as goal
 
 abbrev pub invariant-loop-p : goal.invariant-loop-p
 invariant-loop-p l = Met l.element (λ q. q) l.p l.high × Met l.element (λ q. 24 - q) l.p l.low × (l.p ≤ position_count)
-
-abbrev pub decreases-loop-p : goal.decreases-loop-p
-decreases-loop-p l = position_count - l.p

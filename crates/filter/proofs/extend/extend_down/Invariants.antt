@@ -1,12 +1,8 @@
 -- `extend::extend_down` meets its contract. The invariant: each row before row r that lies below the image has its last row.
 -- Assumes nothing.
-use mathlib.Core.Path.{◌≡◌}
-use Prim.Native.Nat.{◌+◌, ◌-◌, ◌≤◌, ◌<◌, min, max}
+use Prim.Native.Nat.{◌+◌, ◌-◌, ◌≤◌, min, max}
 use Rattle.filter.specs.Code.Extend.{RowsBy}
 use Rattle.filter.proofs.extend.extend_down.Given as goal
 
 abbrev pub invariant-loop-r : goal.invariant-loop-r
-invariant-loop-r l = RowsBy (λ i. min i (l.height + 1 - l.top)) l.initial.map l.map l.r × (l.last < l.r) × (l.r ≤ max (l.height + 2 - l.top) (l.rows + 4)) × (l.last + l.top ≡ l.height + 1)
-
-abbrev pub decreases-loop-r : goal.decreases-loop-r
-decreases-loop-r l = l.rows + 4 - l.r
+invariant-loop-r l = RowsBy (λ i. min i (l.height + 1 - l.top)) l.initial.map l.map l.r × (l.r ≤ max (l.height + 2 - l.top) (l.rows + 4))

@@ -1,13 +1,8 @@
 -- `extend::extend_up` meets its contract. The invariant: the first r rows have the image's first row.
 -- Assumes nothing.
-use mathlib.Core.Path.{◌≡◌}
-use Prim.Native.Nat.{◌-◌, ◌*◌, ◌≤◌}
+use Prim.Native.Nat.{◌-◌}
 use Rattle.filter.specs.Code.Extend.{RowsBy}
-use Rattle.filter.specs.Code.Plane.{step}
 use Rattle.filter.proofs.extend.extend_up.Given as goal
 
 abbrev pub invariant-loop-r : goal.invariant-loop-r
-invariant-loop-r l = RowsBy (λ i. 2 - l.top) l.initial.map l.map l.r × (l.r ≤ 2 - l.top) × (l.from ≡ step * (2 - l.top))
-
-abbrev pub decreases-loop-r : goal.decreases-loop-r
-decreases-loop-r l = 2 - l.top - l.r
+invariant-loop-r l = RowsBy (λ i. 2 - l.top) l.initial.map l.map l.r

@@ -6,7 +6,7 @@ use Rattle.filter.proofs.JudgeLaws.{Judging}
 use Rattle.filter.proofs.judge.confirm.Given as goal
 
 abbrev pub invariant-loop-left : goal.invariant-loop-left
-invariant-loop-left l = Judging (λ s. held_within l.elements l.map (l.from + s / 8) (s % 8)) l.turned l.left l.kept
+invariant-loop-left l = Judging (λ s. held_within l.masks.elements.now l.map (l.from + s / 8) (s % 8)) l.turned l.left l.kept
 
 abbrev pub decreases-loop-left : goal.decreases-loop-left
 decreases-loop-left l = l.left

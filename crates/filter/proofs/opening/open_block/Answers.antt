@@ -7,4 +7,4 @@ use Rattle.filter.proofs.opening.open_block.Goals as goal
 pub returns : goal.returns
 returns c =
     λ t img e i p.
-    c.extend.ensures _ (map_rows _ _ _ _ p t _ _ c.requires.4 c.requires.7 c.fill.ensures (rw (sym e) at c.open_each.ensures))
+    c.extend.ensures _ (map_rows _ _ _ _ p t _ _ c.requires.1 c.requires.4 c.fill.ensures (rw (sym e) at c.open_each.ensures))

@@ -1,13 +1,10 @@
 -- `plane::fold` meets its contract. The invariant: the first k bytes are folded.
 -- Assumes nothing.
-use Prim.Native.Nat.{◌+◌, ◌-◌, ◌≤◌}
+use Prim.Native.Nat.{◌+◌, ◌-◌}
 use lib.ListN.{get_or}
 use Rattle.seq.specs.Loops.{Swept}
-use Rattle.filter.specs.Code.Plane.{band, folded}
+use Rattle.filter.specs.Code.Plane.{folded}
 use Rattle.filter.proofs.plane.fold.Given as goal
 
 abbrev pub invariant-loop-k : goal.invariant-loop-k
-invariant-loop-k l = Swept (λ j. folded l.source l.from (j - l.to) + get_or l.inside (j - l.to) 0) l.initial.out l.out l.to (l.to + l.k) × (l.k ≤ band)
-
-abbrev pub decreases-loop-k : goal.decreases-loop-k
-decreases-loop-k l = band - l.k
+invariant-loop-k l = Swept (λ j. folded l.source l.from (j - l.to) + get_or l.inside (j - l.to) 0) l.initial.out l.out l.to (l.to + l.k)

@@ -1,12 +1,8 @@
 -- `plane::inside` meets its contract. The invariant: the first k bytes say which columns lie inside.
 -- Assumes nothing.
-use Prim.Native.Nat.{◌-◌, ◌≤◌}
 use Rattle.seq.specs.Loops.{Swept}
-use Rattle.filter.specs.Code.Plane.{band, inside_at}
+use Rattle.filter.specs.Code.Plane.{inside_at}
 use Rattle.filter.proofs.plane.inside.Given as goal
 
 abbrev pub invariant-loop-k : goal.invariant-loop-k
-invariant-loop-k l = Swept (inside_at l.width) l.initial.row l.row 0 l.k × (l.k ≤ band)
-
-abbrev pub decreases-loop-k : goal.decreases-loop-k
-decreases-loop-k l = band - l.k
+invariant-loop-k l = Swept (inside_at l.width) l.initial.row l.row 0 l.k

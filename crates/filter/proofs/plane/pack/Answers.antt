@@ -5,4 +5,4 @@ use Rattle.filter.proofs.plane.pack.Goals as goal
 
 pub returns : goal.returns
 returns c =
-    packed_all c.fill.ensures c.pack_rows.ensures (omega arith) c.fill-2.ensures c.requires.3
+    packed_all c.fill.ensures c.pack_rows.ensures (omega arith) c.fill-2.ensures c.requires.1

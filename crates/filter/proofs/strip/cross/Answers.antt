@@ -9,11 +9,11 @@ use Rattle.filter.proofs.strip.cross.Goals as goal
 
 pub made-requires : goal.made-requires
 made-requires c =
-    let few : length (heights_of c.args.strip) ≤ max_parts = omega (arith, length-take c.args.strip.parts c.args.strip.heights, c.requires.3) in
-    parts_few c.requires.0 _ c.requires.2 few c.write_parts.ensures.0
+    let few : length (heights_of c.args.strip) ≤ max_parts = omega (arith, length-take c.args.strip.parts c.args.strip.heights, c.requires.2) in
+    parts_few c.args.scene.now.tall _ c.requires.1 few c.write_parts.ensures.0
 
 pub returns : goal.returns
 returns c =
-    let few : length (heights_of c.args.strip) ≤ max_parts = omega (arith, length-take c.args.strip.parts c.args.strip.heights, c.requires.3) in
-    cross_made _ _ _ _ _ (sym c.exceeds.ensures ∙ c.if-exceeds.false) c.requires.1
-    (c.made.ensures ∙ parts_total c.requires.0 _ c.requires.2 few c.write_parts.ensures.0) c.write_parts.ensures.1
+    let few : length (heights_of c.args.strip) ≤ max_parts = omega (arith, length-take c.args.strip.parts c.args.strip.heights, c.requires.2) in
+    cross_made _ _ _ _ _ (sym c.exceeds.ensures ∙ c.if-exceeds.false) c.requires.0
+    (c.made.ensures ∙ parts_total c.args.scene.now.tall _ c.requires.1 few c.write_parts.ensures.0) c.write_parts.ensures.1

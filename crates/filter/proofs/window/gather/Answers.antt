@@ -9,7 +9,7 @@ use Rattle.filter.proofs.window.gather.Goals as goal
 
 pub overflow_add-row-4 : goal.overflow_add-row-4
 overflow_add-row-4 c =
-    let high : c.args.height ≤ length c.args.values.now = omega (arith, side_le c.args.height c.requires.1) in
+    let high : c.args.size.height ≤ length c.args.values.now = omega (arith, side_le c.args.size.height c.requires.1) in
     omega (arith, high)
 
 pub returns : goal.returns

@@ -13,10 +13,10 @@ overflow_mul-result c = omega (arith, raster_few c.requires c.row_bytes.ensures)
 
 pub overflow_add-result : goal.overflow_add-result
 overflow_add-result c =
-    let w = c.args.width in
-    let h = c.args.height in
+    let w = c.args.size.width in
+    let h = c.args.size.height in
     omega (arith, raster_few c.requires c.row_bytes.ensures, c.length_of.ensures, header_length w h, decimal_short w, decimal_short h)
 
 pub returns : goal.returns
 returns c px =
-    omega (arith, c.length_of.ensures, ap (λ (b : ℕ). b * c.args.height) c.row_bytes.ensures, bytes_length c.args.width c.args.height px)
+    omega (arith, c.length_of.ensures, ap (λ (b : ℕ). b * c.args.size.height) c.row_bytes.ensures, bytes_length c.args.size.width c.args.size.height px)

@@ -1,63 +1,36 @@
 -- `image::majority::judge`: the sizes of the files one after the other, then 26. Assumes nothing.
-use mathlib.Core.List.{List}
-use mathlib.Core.Path.{◌≡◌, sym, ◌∙◌}
-use Prim.Native.Nat.{ℕ}
-use Rattle.image.specs.declared.ImageRead.TheVariants.{Size}
-use Rattle.image.specs.Code.Three.{size_of}
+use Rattle.std.proofs.Common.{sym, ◌∙◌}
+use Rattle.std.proofs.lemmas.Result.{err_from_is_err_and}
 use Rattle.image.proofs.ThreeFiles.{first_refused, second_refused, third_refused, second_differs, third_differs, one_size}
 use Rattle.image.proofs.majority.judge.Goals as goal
 
-pub returns-in_default : goal.returns-in_default
-returns-in_default c =
-    let found = c.size_of-first.ensures in
-    found ∙ first_refused _ _ _ (sym found ∙ c.in_default.is)
+pub returns-in_err-first : goal.returns-in_err-first
+returns-in_err-first c =
+    let p = err_from_is_err_and c.from_residual.result c.from_residual.ensures.1 in
+    rw (p.1, p.2) (first_refused _ _ _ (sym c.in_err-first.ensures))
 
-pub returns-in_default-second : goal.returns-in_default-second
-returns-in_default-second c =
-    let one : List ℕ = c.args.one.now in
-    let first_size : size_of one ≡ Size c.in-Size.width c.in-Size.height = sym c.size_of-first.ensures ∙ c.in-Size.is in
-    let found = c.size_of-second.ensures in
-    found ∙ second_refused _ _ _ first_size (sym found ∙ c.in_default-second.is)
+pub returns-in_err-second : goal.returns-in_err-second
+returns-in_err-second c =
+    let p = err_from_is_err_and c.from_residual-in_err-second.result c.from_residual-in_err-second.ensures.1 in
+    rw (p.1, p.2) (second_refused _ _ _ (sym c.in_ok-first.ensures) (sym c.in_err-second.ensures))
 
-pub returns-in_default-third : goal.returns-in_default-third
-returns-in_default-third c =
-    let one : List ℕ = c.args.one.now in
-    let first_size : size_of one ≡ Size c.in-Size.width c.in-Size.height = sym c.size_of-first.ensures ∙ c.in-Size.is in
-    let two : List ℕ = c.args.two.now in
-    let second_size : size_of two ≡ Size c.in-Size-second.second_width c.in-Size-second.second_height = sym c.size_of-second.ensures ∙ c.in-Size-second.is in
-    let found = c.size_of-third.ensures in
-    found ∙ third_refused _ _ _ first_size second_size (sym found ∙ c.in_default-third.is)
+pub returns-in_err-third : goal.returns-in_err-third
+returns-in_err-third c =
+    let p = err_from_is_err_and c.from_residual-in_err-third.result c.from_residual-in_err-third.ensures.1 in
+    rw (p.1, p.2) (third_refused _ _ _ (sym c.in_ok-first.ensures) (sym c.in_ok-second.ensures) (sym c.in_err-third.ensures))
 
-pub returns-then-not-agree : goal.returns-then-not-agree
-returns-then-not-agree c =
-    let one : List ℕ = c.args.one.now in
-    let first_size : size_of one ≡ Size c.in-Size.width c.in-Size.height = sym c.size_of-first.ensures ∙ c.in-Size.is in
-    let two : List ℕ = c.args.two.now in
-    let second_size : size_of two ≡ Size c.in-Size-second.second_width c.in-Size-second.second_height = sym c.size_of-second.ensures ∙ c.in-Size-second.is in
-    let three : List ℕ = c.args.three.now in
-    let third_size : size_of three ≡ Size c.in-Size-third.third_width c.in-Size-third.third_height = sym c.size_of-third.ensures ∙ c.in-Size-third.is in
-    rw c.refusal_of.ensures
-    (second_differs _ _ _ first_size second_size third_size (sym c.agree.ensures ∙ c.if-not-agree.true))
+pub returns-then-ne : goal.returns-then-ne
+returns-then-ne c =
+    rw c.refused.ensures
+    (second_differs _ _ _ (sym c.in_ok-first.ensures) (sym c.in_ok-second.ensures) (sym c.in_ok-third.ensures) (sym c.ne.ensures ∙ c.if-ne.true))
 
-pub returns-then-not-agree-2 : goal.returns-then-not-agree-2
-returns-then-not-agree-2 c =
-    let one : List ℕ = c.args.one.now in
-    let first_size : size_of one ≡ Size c.in-Size.width c.in-Size.height = sym c.size_of-first.ensures ∙ c.in-Size.is in
-    let two : List ℕ = c.args.two.now in
-    let second_size : size_of two ≡ Size c.in-Size-second.second_width c.in-Size-second.second_height = sym c.size_of-second.ensures ∙ c.in-Size-second.is in
-    let three : List ℕ = c.args.three.now in
-    let third_size : size_of three ≡ Size c.in-Size-third.third_width c.in-Size-third.third_height = sym c.size_of-third.ensures ∙ c.in-Size-third.is in
-    rw c.refusal_of-then-not-agree-2.ensures
-    (third_differs _ _ _ first_size second_size third_size (sym c.agree.ensures ∙ c.if-not-agree.false)
-    (sym c.agree-2.ensures ∙ c.if-not-agree-2.true))
+pub returns-then-ne-2 : goal.returns-then-ne-2
+returns-then-ne-2 c =
+    rw c.refused-then-ne-2.ensures
+    (third_differs _ _ _ (sym c.in_ok-first.ensures) (sym c.in_ok-second.ensures) (sym c.in_ok-third.ensures) (sym c.ne.ensures ∙ c.if-ne.false)
+    (sym c.ne-2.ensures ∙ c.if-ne-2.true))
 
 pub returns : goal.returns
 returns c =
-    let one : List ℕ = c.args.one.now in
-    let first_size : size_of one ≡ Size c.in-Size.width c.in-Size.height = sym c.size_of-first.ensures ∙ c.in-Size.is in
-    let two : List ℕ = c.args.two.now in
-    let second_size : size_of two ≡ Size c.in-Size-second.second_width c.in-Size-second.second_height = sym c.size_of-second.ensures ∙ c.in-Size-second.is in
-    let three : List ℕ = c.args.three.now in
-    let third_size : size_of three ≡ Size c.in-Size-third.third_width c.in-Size-third.third_height = sym c.size_of-third.ensures ∙ c.in-Size-third.is in
-    one_size _ _ _ first_size second_size third_size (sym c.agree.ensures ∙ c.if-not-agree.false)
-    (sym c.agree-2.ensures ∙ c.if-not-agree-2.false)
+    one_size _ _ _ (sym c.in_ok-first.ensures) (sym c.in_ok-second.ensures) (sym c.in_ok-third.ensures) (sym c.ne.ensures ∙ c.if-ne.false)
+    (sym c.ne-2.ensures ∙ c.if-ne-2.false)

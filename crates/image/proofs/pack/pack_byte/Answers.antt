@@ -1,21 +1,29 @@
 -- `image::pack::pack_byte` meets its contract. Assumes nothing.
+use mathlib.Core.Path.{◌≡◌, refl}
+use Prim.Native.Nat.{ℕ}
 use native.Mathlib.Omega.{arith}
-use Rattle.image.proofs.Packed.{packing_none, packing_more, packing_all, packing_small, pixel_small}
+use lib.ListN.{get_or}
+use Rattle.std.proofs.Common.{rules}
+use Rattle.image.proofs.Packed.{packing_more, packing_all, packing_small}
+use Rattle.seq.proofs.HighFirst.{bits_value}
 use Rattle.image.proofs.pack.pack_byte.Goals as goal
 
 pub loop-k-init : goal.loop-k-init
-loop-k-init c = packing_none _
+unfolding bits_value
+loop-k-init c = refl
 
 pub overflow_mul-byte : goal.overflow_mul-byte
-overflow_mul-byte c = omega (arith, packing_small c.loop-k.invariant c.loop-k-test.true (pixel_small c.requires.0 _ _))
+overflow_mul-byte c = omega (arith, packing_small _ c.loop-k.invariant (omega arith) c.requires.small)
 
 pub overflow_add-byte : goal.overflow_add-byte
 overflow_add-byte c =
-    let p = pixel_small c.requires.0 c.args.from c.args.count in
-    omega (arith, packing_small c.loop-k.invariant c.loop-k-test.true p, p c.loop-k.k)
+    let here : c.unwrap_or.result ≡ get_or c.args.pixels.now c.loop-k.k 0 = search rules in
+    omega (arith, packing_small _ c.loop-k.invariant (omega arith) c.requires.small, here, c.requires.small c.loop-k.k)
 
 pub loop-k-preserved : goal.loop-k-preserved
-loop-k-preserved c = packing_more c.loop-k.invariant c.loop-k-test.true c.pixel_in.ensures
+loop-k-preserved c =
+    let here : c.unwrap_or.result ≡ get_or c.args.pixels.now c.loop-k.k 0 = search rules in
+    packing_more (λ (k : ℕ). get_or c.args.pixels.now k 0) c.loop-k.invariant here
 
 pub returns : goal.returns
-returns c = packing_all c.loop-k.invariant c.loop-k-test.false
+returns c = packing_all (λ (k : ℕ). get_or c.args.pixels.now k 0) c.loop-k.invariant (omega arith)

@@ -1,11 +1,8 @@
--- `image::pack::pack_byte` meets its contract. Assumes nothing.
-use Prim.Native.Nat.{◌-◌}
-use Rattle.image.specs.Code.Rows.{pixel_in}
-use Rattle.image.proofs.Packed.{Packing}
+-- `image::pack::pack_byte` meets its contract: the byte is the number of the values passed. Assumes nothing.
+use mathlib.Core.Path.{◌≡◌}
+use lib.ListN.{get_or}
+use Rattle.seq.proofs.HighFirst.{bits_value}
 use Rattle.image.proofs.pack.pack_byte.Given as goal
 
 abbrev pub invariant-loop-k : goal.invariant-loop-k
-invariant-loop-k l = Packing (pixel_in l.pixels l.from l.count) l.byte l.k
-
-abbrev pub decreases-loop-k : goal.decreases-loop-k
-decreases-loop-k l = 8 - l.k
+invariant-loop-k l = l.byte ≡ bits_value (λ k. get_or l.pixels k 0) l.k

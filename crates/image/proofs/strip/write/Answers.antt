@@ -1,86 +1,45 @@
 -- `image::strip::write` meets its contract. Assumes nothing.
-use mathlib.Core.Path.{◌≡◌, sym, ◌∙◌}
-use Prim.Native.Nat.{◌≤◌}
-use native.Mathlib.Omega.{arith}
-use borrow.Author.Rules.{rules}
-use lib.ListN.{length}
-use lib.Seq.{length-take-le}
-use Rattle.image.specs.Strip.{max_parts, strip_verdict}
-use Rattle.image.proofs.Shapes.{Shape, shape_wide}
+use Rattle.std.proofs.lemmas.Result.{err_from_is_err_and}
+use Rattle.std.proofs.Common.{sym, arith}
+use Rattle.image.proofs.Shapes.{shape_wide}
 use Rattle.image.proofs.StripOf.{write_refused, write_short, write_whole}
-use Rattle.image.proofs.Strips.{heights_good, StripGood, strip_good}
+use Rattle.image.proofs.Strips.{heights_good, strip_good}
 use Rattle.image.proofs.WriteOf.{bytes_binary}
-use Rattle.verdict.specs.declared.Verdict.TheVariants.{Accepted}
 use Rattle.image.proofs.strip.write.Goals as goal
 
-pub returns-in-Refused : goal.returns-in-Refused
-returns-in-Refused c = write_refused _ _ (sym c.check.ensures ∙ c.in-Refused.is) _
+pub returns-in_err-check : goal.returns-in_err-check
+returns-in_err-check c =
+    let p = err_from_is_err_and c.from_residual.result c.from_residual.ensures.1 in
+    rw (p.1, p.2) (write_refused _ _ (sym c.in_err-check.ensures) _)
 
-pub slice_bounds-heights-end : goal.slice_bounds-heights-end
-slice_bounds-heights-end c =
-    let height-places : length c.args.strip.heights ≡ max_parts = search rules in
-    let accepted : strip_verdict c.args.strip c.args.pixels.now ≡ Accepted = sym c.check.ensures ∙ c.in_default.is in
-    let good : StripGood c.args.strip c.args.pixels.now = strip_good _ _ accepted in
-    let shape : Shape c.args.strip = good.shape in
-    omega (arith, shape.few, height-places)
-
-pub slice_bounds-length_of-end : goal.slice_bounds-length_of-end
-slice_bounds-length_of-end c =
-    let height-places : length c.args.strip.heights ≡ max_parts = search rules in
-    let accepted : strip_verdict c.args.strip c.args.pixels.now ≡ Accepted = sym c.check.ensures ∙ c.in_default.is in
-    let good : StripGood c.args.strip c.args.pixels.now = strip_good _ _ accepted in
-    let shape : Shape c.args.strip = good.shape in
-    let within : c.args.strip.parts ≤ length c.args.strip.heights = omega (arith, shape.few, height-places) in
-    sym (length-take-le _ _ within)
+pub part_heights-heights-requires : goal.part_heights-heights-requires
+part_heights-heights-requires c = (strip_good _ _ (sym c.in_ok-check.ensures)).shape.few
 
 pub length_of-end-requires : goal.length_of-end-requires
 length_of-end-requires c =
-    let accepted : strip_verdict c.args.strip c.args.pixels.now ≡ Accepted = sym c.check.ensures ∙ c.in_default.is in
-    let good : StripGood c.args.strip c.args.pixels.now = strip_good _ _ accepted in
-    let shape : Shape c.args.strip = good.shape in
-    let s = shape in
-    let side = shape_wide s in
-    (side.0, side.1, heights_good s)
+    let shape = (strip_good _ _ (sym c.in_ok-check.ensures)).shape in
+    let side = shape_wide shape in
+    (side.0, side.1, rw c.part_heights-heights.ensures (heights_good shape))
 
 pub returns-then-out-end : goal.returns-then-out-end
 returns-then-out-end c =
-    let accepted : strip_verdict c.args.strip c.args.pixels.now ≡ Accepted = sym c.check.ensures ∙ c.in_default.is in
-    rw c.refusal_of.ensures (write_short _ _ accepted _ (c.length_of-end.ensures _) c.if-out-end.true)
-
-pub slice_bounds-heights-end-2 : goal.slice_bounds-heights-end-2
-slice_bounds-heights-end-2 c =
-    let height-places : length c.args.strip.heights ≡ max_parts = search rules in
-    let accepted : strip_verdict c.args.strip c.args.pixels.now ≡ Accepted = sym c.check.ensures ∙ c.in_default.is in
-    let good : StripGood c.args.strip c.args.pixels.now = strip_good _ _ accepted in
-    let shape : Shape c.args.strip = good.shape in
-    omega (arith, shape.few, height-places)
-
-pub slice_bounds-write_parts-end : goal.slice_bounds-write_parts-end
-slice_bounds-write_parts-end c =
-    let height-places : length c.args.strip.heights ≡ max_parts = search rules in
-    let accepted : strip_verdict c.args.strip c.args.pixels.now ≡ Accepted = sym c.check.ensures ∙ c.in_default.is in
-    let good : StripGood c.args.strip c.args.pixels.now = strip_good _ _ accepted in
-    let shape : Shape c.args.strip = good.shape in
-    let within : c.args.strip.parts ≤ length c.args.strip.heights = omega (arith, shape.few, height-places) in
-    sym (length-take-le _ _ within)
+    let long = rw c.part_heights-heights.ensures at (c.length_of-end.ensures c.args.pixels.now) in
+    rw c.refused.ensures (write_short _ _ (sym c.in_ok-check.ensures) _ long c.if-out-end.true)
 
 pub write_parts-requires : goal.write_parts-requires
 write_parts-requires c =
-    let accepted : strip_verdict c.args.strip c.args.pixels.now ≡ Accepted = sym c.check.ensures ∙ c.in_default.is in
-    let good : StripGood c.args.strip c.args.pixels.now = strip_good _ _ accepted in
-    let shape : Shape c.args.strip = good.shape in
-    let s = shape in
-    let g = good in
-    let side = shape_wide s in (
+    let good = strip_good _ _ (sym c.in_ok-check.ensures) in
+    let side = shape_wide good.shape in
+    let long = c.length_of-end.ensures c.args.pixels.now in (
       side.0,
       side.1,
-      heights_good s,
-      bytes_binary g.bytes,
-      g.bytes.count,
-      omega (arith, c.length_of-end.ensures c.args.pixels.now, c.if-out-end.false),
+      rw c.part_heights-heights.ensures (heights_good good.shape),
+      bytes_binary good.bytes,
+      rw c.part_heights-heights.ensures good.bytes.count,
+      omega (arith, long, c.if-out-end.false),
     )
 
 pub returns : goal.returns
 returns c =
-    let accepted : strip_verdict c.args.strip c.args.pixels.now ≡ Accepted = sym c.check.ensures ∙ c.in_default.is in
-    write_whole _ _ accepted _ (c.length_of-end.ensures _) c.if-out-end.false c.write_parts.ensures
+    let long = rw c.part_heights-heights.ensures at (c.length_of-end.ensures c.args.pixels.now) in
+    write_whole _ _ (sym c.in_ok-check.ensures) _ long c.if-out-end.false (rw c.part_heights-heights.ensures at c.write_parts.ensures)

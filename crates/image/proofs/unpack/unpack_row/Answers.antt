@@ -1,18 +1,19 @@
 -- `image::unpack::unpack_row` meets its contract. Assumes nothing.
 use native.Mathlib.Omega.{arith}
-use Rattle.image.proofs.Unpacked.{row_byte_lem, row_more, row_rest}
+use lib.ListN.{length}
+use Rattle.image.proofs.RowBytes.{row_bytes_fit}
+use Rattle.image.proofs.Unpacked.{row_more, row_rest, row_all}
 use Rattle.image.proofs.unpack.unpack_row.Goals as goal
 
-pub bounds-raster-at : goal.bounds-raster-at
-bounds-raster-at c = omega (arith, row_byte_lem c.loop-col.invariant (omega arith))
+pub bounds-bytes-i : goal.bounds-bytes-i
+bounds-bytes-i c = omega (arith, row_bytes_fit (length c.args.row.now))
 
-pub loop-col-preserved : goal.loop-col-preserved
-loop-col-preserved c =
-    row_more c.loop-col.invariant c.loop-col-test.true c.unpack_byte.ensures
+pub loop-i-preserved : goal.loop-i-preserved
+loop-i-preserved c = row_more c.args.bytes.now c.loop-i.i c.loop-i.invariant (omega arith) c.unpack_byte.ensures
 
-pub bounds-raster-at-then-col-width : goal.bounds-raster-at-then-col-width
-bounds-raster-at-then-col-width c = omega (arith, row_byte_lem c.loop-col.invariant c.if-col-width.true)
+pub returns-then-whole-bytes : goal.returns-then-whole-bytes
+returns-then-whole-bytes c =
+    row_rest c.args.bytes.now c.loop-i.i c.loop-i.invariant (omega arith) c.unpack_byte-then-whole-bytes.ensures
 
-pub returns-then-col-width : goal.returns-then-col-width
-returns-then-col-width c =
-    row_rest c.loop-col.invariant c.loop-col-test.false c.unpack_byte-then-col-width.ensures
+pub returns-else-whole-bytes : goal.returns-else-whole-bytes
+returns-else-whole-bytes c = row_all c.args.bytes.now c.loop-i.i c.loop-i.invariant (omega arith) c.requires (omega arith)

@@ -1,10 +1,8 @@
--- `image::unpack::unpack_row` meets its contract. Assumes nothing.
-use Prim.Native.Nat.{◌-◌}
-use Rattle.image.proofs.Unpacked.{RowDone}
+-- `image::unpack::unpack_row` meets its contract: the pixels of the bytes passed are stored. Assumes nothing.
+use Prim.Native.Nat.{◌*◌}
+use Rattle.image.specs.Code.Rows.{row_pixel}
+use Rattle.seq.specs.Tab.{Filled}
 use Rattle.image.proofs.unpack.unpack_row.Given as goal
 
-abbrev pub invariant-loop-col : goal.invariant-loop-col
-invariant-loop-col l = RowDone l.raster l.from l.width l.initial.area l.to l.area l.at l.col
-
-abbrev pub decreases-loop-col : goal.decreases-loop-col
-decreases-loop-col l = l.width - l.col
+abbrev pub invariant-loop-i : goal.invariant-loop-i
+invariant-loop-i l = Filled (row_pixel l.bytes) l.initial.row l.row (8 * l.i)

@@ -1,17 +1,15 @@
--- `job::parts::any_set`: the join of the numbers passed is above 0 exactly when one of them is.
--- Assumes nothing.
-use mathlib.Core.Path.{ap, ◌∙◌}
+-- `job::parts::any_set`: a number is not zero exactly when not all are. Assumes nothing.
+use mathlib.Core.Bool.{not}
+use mathlib.Core.Path.{◌∙◌}
+use lib.Dec.{eqb}
 use borrow.Author.Rules.{rules}
-use lib.Dec.{ltb}
-use lib.Seq.{take_all}
-use Rattle.seq.specs.Lists.{any}
-use Rattle.job.proofs.Seen.{seen_more, seen_zero}
+use Rattle.std.proofs.Common.{tests}
+use Rattle.std.proofs.lemmas.Iterator.{YieldsList-from_slice}
+use Rattle.std.proofs.lemmas.Iterator.Search.{any_from_yields_List}
+use Rattle.job.proofs.Seen.{some_nonzero}
 use Rattle.job.proofs.parts.any_set.Goals as goal
-
-pub loop-i-preserved : goal.loop-i-preserved
-loop-i-preserved c =
-    (search rules, seen_more 0 c.args.numbers.now c.loop-i.i c.loop-i.seen (search rules) c.loop-i.invariant.1)
 
 pub returns : goal.returns
 returns c =
-    seen_zero c.args.numbers.now c.loop-i.seen (c.loop-i.invariant.1 ∙ ap (any (ltb 0)) (take_all _ _ c.loop-i-test.false))
+    any_from_yields_List (λ n. not (eqb n 0)) _ _ c.any.result c.any.ensures.ran (YieldsList-from_slice c.args.numbers.now cc) (λ x b q k. search (rules, tests))
+    ∙ some_nonzero c.args.numbers.now

@@ -10,19 +10,19 @@ use Rattle.job.proofs.parts.are_counts.Goals as goal
 
 pub returns-then-sums_to : goal.returns-then-sums_to
 returns-then-sums_to c =
-    let added_places : length c.args.job.counts.added ≡ max_parts = search rules in
-    let removed_places : length c.args.job.counts.removed ≡ max_parts = search rules in
+    let added_places : length c.args.job.now.counts.added ≡ max_parts = search rules in
+    let removed_places : length c.args.job.now.counts.removed ≡ max_parts = search rules in
     sym (
     ap₂ ◌&&◌
-    (sums_whole c.args.job.added c.args.job.counts.added added_places c.sums_to.ensures ∙ c.if-sums_to.true)
-    (sums_whole c.args.job.removed c.args.job.counts.removed removed_places c.sums_to-then-sums_to.ensures)
+    (sums_whole c.args.job.now.added c.args.job.now.counts.added added_places c.sums_to.ensures ∙ c.if-sums_to.true)
+    (sums_whole c.args.job.now.removed c.args.job.now.counts.removed removed_places c.sums_to-then-sums_to.ensures)
     )
 
 pub returns-else-sums_to : goal.returns-else-sums_to
 returns-else-sums_to c =
-    let added_places : length c.args.job.counts.added ≡ max_parts = search rules in
+    let added_places : length c.args.job.now.counts.added ≡ max_parts = search rules in
     c.if-sums_to.false
     ∙ sym (
-    ap (λ (b : Bool). b && sums_to c.args.job.removed c.args.job.counts.removed)
-    (sums_whole c.args.job.added c.args.job.counts.added added_places c.sums_to.ensures ∙ c.if-sums_to.false)
+    ap (λ (b : Bool). b && sums_to c.args.job.now.removed c.args.job.now.counts.removed)
+    (sums_whole c.args.job.now.added c.args.job.now.counts.added added_places c.sums_to.ensures ∙ c.if-sums_to.false)
     )

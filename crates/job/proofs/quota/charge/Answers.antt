@@ -4,9 +4,9 @@ use Rattle.history.specs.Quota.{available}
 use Rattle.job.proofs.Charges.{charged_taken}
 use Rattle.job.proofs.quota.charge.Goals as goal
 
-pub overflow_sub-after-2 : goal.overflow_sub-after-2
+pub overflow_sub-after-4 : goal.overflow_sub-after-4
 unfolding available
-overflow_sub-after-2 c = omega (arith, c.requires.2, c.least-taken.ensures)
+overflow_sub-after-4 c = omega (arith, c.requires.2, c.min-taken.ensures)
 
 pub returns : goal.returns
-returns c = charged_taken _ _ _ _ c.least-taken.ensures
+returns c = charged_taken _ _ _ _ c.min-taken.ensures

@@ -12,10 +12,10 @@ pub returns-then-are_bad : goal.returns-then-are_bad
 unfolding inconsistent
 returns-then-are_bad c = simp (sym c.are_bad.ensures ∙ c.if-are_bad.true)
 
-pub returns-in-Refused : goal.returns-in-Refused
+pub returns-in-Err : goal.returns-in-Err
 unfolding inconsistent
-returns-in-Refused c =
-    simp (sym c.are_bad.ensures ∙ c.if-are_bad.false, sym c.check.ensures ∙ c.in-Refused.is)
+returns-in-Err c =
+    simp (sym c.are_bad.ensures ∙ c.if-are_bad.false, sym c.check.ensures ∙ c.in-Err.is)
 
 pub overflow_mul-pixels : goal.overflow_mul-pixels
 overflow_mul-pixels c =

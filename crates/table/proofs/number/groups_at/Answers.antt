@@ -5,7 +5,7 @@ use Rattle.table.proofs.Groups.{summed_lt}
 use Rattle.table.proofs.number.groups_at.Goals as goal
 
 pub overflow_mul-value : goal.overflow_mul-value
-overflow_mul-value c = omega (arith, summed_lt c.loop-left.invariant c.loop-left-test.true)
+overflow_mul-value c = omega (arith, summed_lt c.loop-j.invariant c.loop-j-test.true)
 
 pub overflow_add-value : goal.overflow_add-value
-overflow_add-value c = omega (arith, summed_lt c.loop-left.invariant c.loop-left-test.true)
+overflow_add-value c = omega (arith, summed_lt c.loop-j.invariant c.loop-j-test.true)
