@@ -16,8 +16,7 @@ use Rattle.history.specs.View.{view_of}
 use Rattle.history.specs.Call.{view, state_of}
 use Rattle.history.specs.Sound.{Ready}
 use Rattle.history.proofs.Ready.{accepted_ready}
-use Rattle.verdict.specs.declared.Refusal.{Refusal}
-use Rattle.verdict.specs.Rules.{Verdict}
+use Rattle.verdict.specs.Rules.{Verdict, Refusal}
 
 part_is : (s : State) {v : Verdict} → ready_verdict s ≡ v → part_as v s ≡ part_of s
 unfolding part_of

@@ -25,8 +25,7 @@ use Rattle.job.specs.declared.quota.Opened.{Opened}
 use Rattle.table.specs.declared.Table.{Table}
 use Rattle.table.specs.File.{record_of}
 use Rattle.verdict.specs.Answers.{said, written_length, verdict_of}
-use Rattle.verdict.specs.declared.Refusal.{Refusal}
-use Rattle.verdict.specs.Rules.{Verdict}
+use Rattle.verdict.specs.Rules.{Verdict, Refusal}
 use Rattle.verdict.specs.Writer.{Written}
 
 abbrev pub of_verdict : Verdict → Checked

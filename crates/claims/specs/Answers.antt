@@ -16,8 +16,7 @@ use Rattle.table.specs.declared.Table.{Table}
 use Rattle.table.specs.File as table
 use Rattle.table.specs.Record.{zero_table}
 use Rattle.verdict.specs.Answers.{written_length, verdict_of}
-use Rattle.verdict.specs.declared.Refusal.{Refusal}
-use Rattle.verdict.specs.Rules.{Verdict, result_of}
+use Rattle.verdict.specs.Rules.{Verdict, result_of, Refusal}
 use Rattle.verdict.specs.Writer.{written_of}
 use Rattle.table.proofs.Files.{refused_zero}
 

@@ -23,9 +23,8 @@ use Rattle.history.specs.Source.{Source, source_verdict}
 use Rattle.history.specs.State.{State, pixels}
 use Rattle.table.specs.declared.Table.{Table}
 use Rattle.table.specs.Record.{record_verdict}
-use Rattle.verdict.specs.declared.Refusal.{Refusal}
 use Rattle.verdict.specs.Numbers.{among}
-use Rattle.verdict.specs.Rules.{refusal, refuse_if, judge, number_of}
+use Rattle.verdict.specs.Rules.{refusal, refuse_if, judge, number_of, Refusal}
 
 -- a refused call: all else in its answer is zero, an output is as it was
 module _ (s : State) (r : Refusal) where

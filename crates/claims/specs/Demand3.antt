@@ -27,8 +27,7 @@ use Rattle.history.specs.View.{view_of, cover}
 use Rattle.image.specs.Strip.{shape_verdict, strip_of}
 use Rattle.seq.specs.Lists.{one}
 use Rattle.table.specs.Record.{record_verdict}
-use Rattle.verdict.specs.declared.Refusal.{Refusal}
-use Rattle.verdict.specs.Rules.{number_of}
+use Rattle.verdict.specs.Rules.{number_of, Refusal}
 use Rattle.verdict.specs.Writer.{over}
 
 abbrev pub course : List Call → List ℕ → List ℕ → Course

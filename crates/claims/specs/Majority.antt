@@ -34,8 +34,7 @@ use Rattle.seq.specs.Lists.{all, same_list}
 use Rattle.table.specs.declared.Table.{Table}
 use Rattle.table.specs.Record.{zero_table, record_verdict}
 use Rattle.verdict.specs.Answers.{said}
-use Rattle.verdict.specs.declared.Refusal.{Refusal}
-use Rattle.verdict.specs.Rules.{refuse_if, judge, number_of}
+use Rattle.verdict.specs.Rules.{refuse_if, judge, number_of, Refusal}
 
 pub record Three (w h : ℕ) (a b c : List ℕ) : Type 0 where
   pub first : IsImage w h a

@@ -14,8 +14,7 @@ use Rattle.image.proofs.Ignored.{padding_ignored}
 use Rattle.image.specs.File.{image_verdict, image_read, image_area}
 use Rattle.image.specs.Padding.{unused_zero, cleared}
 use Rattle.table.specs.declared.Table.{Table}
-use Rattle.verdict.specs.declared.Refusal.{Refusal}
-use Rattle.verdict.specs.Rules.{number_of}
+use Rattle.verdict.specs.Rules.{number_of, Refusal}
 
 -- files that differ in unused bits alone: the same answer, refusals too, and the same area afterwards
 module _ (f g : List ℕ) (alike : cleared f ≡ cleared g) where

@@ -44,8 +44,7 @@ use Rattle.image.specs.Size.{within}
 use Rattle.operator.specs.Pass as operator
 use Rattle.seq.specs.Lists.{sum_of}
 use Rattle.seq.specs.Tab.{tab}
-use Rattle.verdict.specs.declared.Refusal.{Refusal}
-use Rattle.verdict.specs.Rules.{refusal, refuse_if, judge, Verdict}
+use Rattle.verdict.specs.Rules.{refusal, refuse_if, judge, Verdict, Refusal}
 
 -- a quota is opened: those past the channels are unread, and what the reserves leave is the pool
 module _ (q : Quota) where

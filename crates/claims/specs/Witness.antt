@@ -19,9 +19,8 @@ use Rattle.table.specs.File.{table_of, file_verdict}
 use Rattle.table.specs.Record.{zero_table, record_verdict}
 use Rattle.table.specs.Witness.{Apart, Missed, Witness}
 use Rattle.verdict.proofs.Numbers.{says_of}
-use Rattle.verdict.specs.declared.Refusal.{Refusal}
 use Rattle.verdict.specs.Numbers.{among}
-use Rattle.verdict.specs.Rules.{number_of}
+use Rattle.verdict.specs.Rules.{number_of, Refusal}
 
 pub record_witness : (t : Table) (x : Refusal) → record_verdict t ≡ Err x → Witness t x
 record_witness t x q = says_of (witnesses.of_record t) q

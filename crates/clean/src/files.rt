@@ -1,4 +1,6 @@
 // Files by name, in the current folder, and what fails of them.
+ghost use Rattle.std.specs.Prelude.{◌≡◌, ◌≤◌, length, IfOk};
+
 use std::fmt::{self, InlineText};
 use std::fs::{OpenFile, OpenOptions};
 use std::io::{ErrorKind, Read, Write};
@@ -33,10 +35,22 @@ impl Name {
     }
 }
 
+// What failed, and the new file that it leaves behind.
 #[derive(Drop)]
 pub(crate) struct Failure {
     pub name: Name,
     pub error: io::Error,
+    pub left: Option<Name>,
+}
+
+impl Failure {
+    pub(crate) fn of(name: Name, error: io::Error) -> Failure {
+        Failure {
+            name,
+            error,
+            left: None,
+        }
+    }
 }
 
 // A new file, and the number in its name.
@@ -46,21 +60,51 @@ struct Part<F: Drop> {
     name: Name,
 }
 
-// The bytes of a file, up to a limit. A missing file counts as empty (01).
-pub(crate) fn read<R: Runtime>(rt: &R, name: Name, limit: u64) -> Result<Vec<u8, R::A>, Failure> {
-    read_all(rt, name, limit).map_err(|error| Failure { name, error })
+// The bytes of a file, in the room for them and as far as it goes.
+pub(crate) fn read<'a, R: Runtime>(
+    rt: &R,
+    name: Name,
+    room: &'a mut [u8],
+) -> Result<&'a [u8], Failure>
+    ensures { IfOk result (λ bytes. length bytes.now ≤ length room.old) }
+{
+    match fill(rt, name, room) {
+        Ok(count) => Ok(&room[..count]),
+        Err(error) => Err(Failure::of(name, error)),
+    }
 }
 
-fn read_all<R: Runtime>(rt: &R, name: Name, limit: u64) -> io::Result<Vec<u8, R::A>> {
-    let mut bytes = Vec::new(rt.alloc());
+fn fill<R: Runtime>(rt: &R, name: Name, room: &mut [u8]) -> io::Result<usize>
+    ensures { IfOk result (λ count. count ≤ length room.new) }
+{
     match fs::open(rt, name.path().as_str()) {
-        Ok(file) => {
-            file.take(limit).read_to_end(&mut bytes)?;
-        }
-        Err(error) if error.kind() == ErrorKind::NotFound => {}
-        Err(error) => return Err(error),
+        Ok(mut file) => read_on(&mut file, room),
+        Err(error) => unopened(error),
     }
-    Ok(bytes)
+}
+
+// A missing file counts as empty (01).
+fn unopened(error: io::Error) -> io::Result<usize>
+    ensures { IfOk result (λ count. count ≡ 0) }
+{
+    if error.kind() == ErrorKind::NotFound {
+        return Ok(0);
+    }
+    Err(error)
+}
+
+// Reads until the room is full or the file ends.
+fn read_on<F: Read>(file: &mut F, room: &mut [u8]) -> io::Result<usize>
+    ensures { IfOk result (λ count. count ≤ length room.new) }
+{
+    let mut count = 0;
+    while count < room.len() {
+        match file.read(&mut room[count..])? {
+            0 => break,
+            more => count += more,
+        }
+    }
+    Ok(count)
 }
 
 // Writes the bytes to a new file and then gives it the name of the image, which is there whole or as it was.
@@ -69,13 +113,18 @@ pub(crate) fn replace<R: Runtime>(rt: &R, bytes: &[u8]) -> Result<(), Failure> {
     let moved = store(file, bytes).and_then(|()| {
         fs::rename(rt, name.path().as_str(), Name::Image.path().as_str())
     });
-    moved.map_err(|error| {
-        let _ = fs::remove_file(rt, name.path().as_str());
-        Failure {
-            name: Name::Image,
-            error,
-        }
+    moved.map_err(|error| Failure {
+        name: Name::Image,
+        error,
+        left: Some(name),
     })
+}
+
+// What a failure leaves behind goes once it is said.
+pub(crate) fn clear<R: Runtime>(rt: &R, failure: &Failure) {
+    if let Some(name) = failure.left {
+        let _ = fs::remove_file(rt, name.path().as_str());
+    }
 }
 
 // The file is closed when this returns, and what a close would report is asked for before.
@@ -103,7 +152,7 @@ fn attempt<R: Runtime>(rt: &R, k: u8) -> Result<Part<R::File>, Failure> {
         .create_new(true)
         .open(rt, name.path().as_str())
         .map(|file| Part { file, name })
-        .map_err(|error| Failure { name, error })
+        .map_err(|error| Failure::of(name, error))
 }
 
 fn is_taken<F: Drop>(part: &Result<Part<F>, Failure>) -> bool {

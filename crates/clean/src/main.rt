@@ -39,19 +39,23 @@ fn main(rt: HostRuntime) {
     match clean(&rt) {
         Ok(job) => say::print(&rt, Line::Cleaned(job)),
         Err(Trouble::Refused(refusal)) => say::print(&rt, Line::Refused(refusal)),
-        Err(Trouble::Failed(failure)) => say::failure(&rt, &failure),
+        Err(Trouble::Failed(failure)) => {
+            say::failure(&rt, &failure);
+            files::clear(&rt, &failure);
+        }
     }
 }
 
 // A whole job; the record is that of the job at rest.
 fn clean<R: Runtime>(rt: &R) -> Result<Job, Trouble> {
-    let file = files::read(rt, Name::Table, TABLE_ROOM as u64)?;
-    let table = table::read(file.as_slice())?;
-    let sheet = files::read(rt, Name::Sheet, SHEET_ROOM as u64)?;
+    let mut file = [0u8; TABLE_ROOM];
+    let table = table::read(files::read(rt, Name::Table, &mut file)?)?;
+    let mut room = [0u8; SHEET_ROOM];
+    let sheet = files::read(rt, Name::Sheet, &mut room)?;
     let mut first = [0u8; MAX_PIXELS];
     let mut second = [0u8; MAX_PIXELS];
     let mut job = job::empty();
-    job::load(&mut job, table, sheet.as_slice(), &mut first, &second)?;
+    job::load(&mut job, table, sheet, &mut first, &second)?;
     job::run(&mut job, &mut first, &mut second)?;
     let stable = job;
     let mut out = [0u8; SHEET_ROOM];

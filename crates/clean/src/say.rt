@@ -35,19 +35,13 @@ impl fmt::Display for Line {
 
 pub(crate) fn print<R: Runtime>(rt: &R, line: Line) {
     if let Err(error) = println!(rt; "{line}") {
-        failure(
-            rt,
-            &Failure {
-                name: Name::Output,
-                error,
-            },
-        );
+        failure(rt, &Failure::of(Name::Output, error));
     }
 }
 
 // What failed, and the system's words for it, without the number that std puts behind them.
 pub(crate) fn failure<R: Runtime>(rt: &R, failure: &Failure) {
-    let Failure { name, error } = failure;
+    let Failure { name, error, .. } = failure;
     let _ = match format!(in rt.alloc(); "{error}") {
         Ok(text) => eprintln!(rt; "{name}: {}", words(text.as_str())),
         Err(_) => eprintln!(rt; "{name}: {error}"),

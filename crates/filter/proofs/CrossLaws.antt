@@ -42,8 +42,7 @@ use Rattle.seq.specs.Lists.{sum_of}
 use Rattle.seq.proofs.Lists.{clash}
 use Rattle.table.specs.declared.Table.{Table}
 use Rattle.table.specs.Record.{record_verdict}
-use Rattle.verdict.specs.declared.Refusal.{Refusal}
-use Rattle.verdict.specs.Rules.{refusal, Verdict}
+use Rattle.verdict.specs.Rules.{refusal, Verdict, Refusal}
 use Rattle.verdict.specs.Writer.{over}
 use Rattle.verdict.proofs.Rules.{or_else_left, or_else_right, refuse_if_accepted}
 

@@ -19,8 +19,7 @@ use Rattle.verdict.specs.declared.Rule.TheVariants as why
 use Rattle.seq.proofs.Lists.{clash}
 use Rattle.table.specs.declared.Table.{Table}
 use Rattle.table.specs.Record.{record_verdict}
-use Rattle.verdict.specs.declared.Refusal.{Refusal}
-use Rattle.verdict.specs.Rules.{refusal, Verdict}
+use Rattle.verdict.specs.Rules.{refusal, Verdict, Refusal}
 use Rattle.verdict.proofs.Rules.{or_else_left, or_else_right, refuse_if_accepted}
 use Rattle.filter.specs.Applied.{pass_verdict, filtered, filtered_area, switched, range_verdict, again_verdict, again, again_area, Again, AllAgain, ranged}
 use Rattle.filter.specs.Code.Blocks.{Switched}

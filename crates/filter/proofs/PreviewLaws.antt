@@ -21,8 +21,7 @@ use Rattle.image.specs.File.{pixel_verdict}
 use Rattle.image.specs.Size.{max_pixels}
 use Rattle.image.proofs.PixelsOf.{PixelsGood, pixels_good}
 use Rattle.image.proofs.RowBytes.{pixels_few, sides}
-use Rattle.verdict.specs.declared.Refusal.{Refusal}
-use Rattle.verdict.specs.Rules.{refusal, Verdict}
+use Rattle.verdict.specs.Rules.{refusal, Verdict, Refusal}
 use Rattle.verdict.specs.Writer.{over}
 use Rattle.operator.specs.Image.{IsImage}
 use Rattle.operator.specs.Preview.{from_bits, pattern, five_or_more, preview}

@@ -28,7 +28,7 @@ use Rattle.image.proofs.RowBytes.{sides}
 use Rattle.operator.specs.Image.{IsImage}
 use Rattle.table.specs.declared.Table.{Table}
 use Rattle.table.specs.Record.{record_verdict}
-use Rattle.verdict.specs.declared.Refusal.{Refusal}
+use Rattle.verdict.specs.Rules.{Refusal}
 use Rattle.verdict.proofs.Rules.{or_else_left, or_else_right, refuse_if_accepted}
 
 module _ (t : Table) (w h : ℕ) (n : ℕ) where

@@ -3,8 +3,8 @@
 --     unfold_more, unfold_all     one store, its end
 --     coded_pixel                       the code's bit for the value 1 is the pixel
 --     shown_more, shown_row, shown_skip     one row more: any, one with a mark, one with none
---     Showing w h marks plane d l r     where the walk along the rows stands at row r
---     showing_row, showing_skip     one row more: one with a mark, one with none
+--     Showing w h marks plane d l r from to     where the walk along the rows stands at row r
+--     showing_next, showing_row, showing_skip     one row more: any, one with a mark, one with none
 -- Assumes nothing.
 use mathlib.Core.List.{List}
 use mathlib.Core.Logic.{⊎_elim}
@@ -121,20 +121,25 @@ module _ {w n : ℕ} {img marks d l : List ℕ} (s : Shown w n img marks d l) wh
   shown_skip : get_or marks n 0 ≡ 0 → Shown w (n + 1) img marks d l
   shown_skip z = shown_more refl (λ j a. refl) (λ j a. refl) (λ c a k. absurd (k z)) (λ c a _. refl)
 
--- a walk along the rows stands at row r
-pub record Showing (w h : ℕ) (marks plane d l : List ℕ) (r : ℕ) : Type 0 where
+-- a walk along the rows stands at row r: where its bands begin in the plane, and its first pixel
+pub record Showing (w h : ℕ) (marks plane d l : List ℕ) (r from to : ℕ) : Type 0 where
+  pub plane_place : from ≡ (r + rim) * step + halo
+  pub flat_place : to ≡ r * w
   pub within_rows : r ≤ h
   pub long : length l ≡ length d
   pub shown : (img : List ℕ) → IsImage w h img → Packed w h img plane → Shown w r img marks d l
 
-module _ {w h : ℕ} {marks plane d l : List ℕ} {r : ℕ} (s : Showing w h marks plane d l r) where
-  pub showing_row : {m : List ℕ} (from : ℕ) → from ≡ (r + rim) * step + halo → r < h → w ≤ max_side → Marked marks r
-      → Swept (λ j. unfolded plane from (j - r * w)) l m (r * w) (r * w + w) → Showing w h marks plane d m (r + 1)
-  showing_row from e q fits k t = record {
-    within_rows = omega arith;
-    long = t.long ∙ s.long;
-    shown = λ img i p. shown_row (s.shown img i p) plane from t refl (λ c a. coded_pixel i p fits r c q a e) k;
-  }
+module _ {w h : ℕ} {marks plane d l : List ℕ} {r from to : ℕ} (s : Showing w h marks plane d l r from to) where
+  showing_next : {m : List ℕ} → r < h → length m ≡ length l → ((img : List ℕ) → IsImage w h img → Packed w h img plane → Shown w (r + 1) img marks d m)
+      → Showing w h marks plane d m (r + 1) (from + step) (to + w)
+  showing_next q e f =
+      record { plane_place = omega arith; flat_place = omega arith; within_rows = omega arith; long = e ∙ s.long; shown = f }
 
-  pub showing_skip : r < h → get_or marks r 0 ≡ 0 → Showing w h marks plane d l (r + 1)
-  showing_skip q z = record { within_rows = omega arith; long = s.long; shown = λ img i p. shown_skip (s.shown img i p) z }
+  pub showing_row : {m : List ℕ} → r < h → w ≤ max_side → Marked marks r → Swept (λ j. unfolded plane from (j - to)) l m to (to + w)
+      → Showing w h marks plane d m (r + 1) (from + step) (to + w)
+  showing_row q fits k t =
+      showing_next q t.long
+      (λ img i p. shown_row (s.shown img i p) plane from t s.flat_place (λ c a. coded_pixel i p fits r c q a s.plane_place) k)
+
+  pub showing_skip : r < h → get_or marks r 0 ≡ 0 → Showing w h marks plane d l (r + 1) (from + step) (to + w)
+  showing_skip q z = showing_next q refl (λ img i p. shown_skip (s.shown img i p) z)

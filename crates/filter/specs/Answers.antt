@@ -4,7 +4,7 @@
 -- Assumes nothing.
 use Rattle.std.specs.Prelude.{ℕ, Ok, Err, Result}
 use Rattle.filter.specs.declared.Changes.{Changes}
-use Rattle.verdict.specs.declared.Refusal.{Refusal}
+use Rattle.verdict.specs.Rules.{Refusal}
 
 abbrev pub Filtered : Type 0
 Filtered = Result Changes Refusal

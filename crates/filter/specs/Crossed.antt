@@ -17,8 +17,7 @@ use Rattle.operator.specs.Parts.{part_counts}
 use Rattle.operator.specs.Pass.{pass}
 use Rattle.table.specs.declared.Table.{Table}
 use Rattle.table.specs.Record.{record_verdict}
-use Rattle.verdict.specs.declared.Refusal.{Refusal}
-use Rattle.verdict.specs.Rules.{judge, result_of, Verdict}
+use Rattle.verdict.specs.Rules.{judge, result_of, Verdict, Refusal}
 use Rattle.verdict.specs.Writer.{over}
 
 unfoldable pub cross_verdict : Table → Strip → List ℕ → ℕ → Verdict

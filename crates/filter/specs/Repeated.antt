@@ -20,8 +20,7 @@ use Rattle.filter.specs.Applied.{pass_verdict}
 use Rattle.operator.specs.Image.{added, removed, differs}
 use Rattle.operator.specs.Pass.{pass}
 use Rattle.table.specs.declared.Table.{Table}
-use Rattle.verdict.specs.declared.Refusal.{Refusal}
-use Rattle.verdict.specs.Rules.{result_of}
+use Rattle.verdict.specs.Rules.{result_of, Refusal}
 use Rattle.verdict.specs.Writer.{over}
 
 pub record Trail : Type 0 where

@@ -35,7 +35,7 @@ pub(crate) fn fill(out: &mut [u8], from: usize, count: usize, value: u8)
     out[from..from + count].fill(value);
 }
 
-// Row by row.
+// Row by row; the places of a row's first pixel and of its first byte are carried along.
 fn pack_rows(pixels: &[u8], sides: Sides, plane: &mut [u8])
     requires { IsImage sides.width sides.height pixels.now × (step * (sides.height + 2 * rim) ≤ length plane.old) }
     ensures { RowsPacked sides.width pixels.now sides.height plane.old plane.new }
@@ -43,9 +43,12 @@ fn pack_rows(pixels: &[u8], sides: Sides, plane: &mut [u8])
     let Sides { width, height } = sides;
     let inside = inside(width);
     let mut line = [0u8; MAX_SIDE];
+    let mut from = 0;
+    let mut to = RIM * STEP;
     for row in 0..height {
-        let to = (RIM + row) * STEP;
-        pack_row(pixels, row * width, width, &inside, &mut line, plane, to);
+        pack_row(pixels, from, width, &inside, &mut line, plane, to);
+        from += width;
+        to += STEP;
     }
 }
 

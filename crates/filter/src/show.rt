@@ -19,10 +19,14 @@ pub(crate) fn show(sides: Sides, marks: &[u8], plane: &[u8], out: &mut [u8])
         → Shown sides.width sides.height img marks.now out.old out.new }
 {
     let Sides { width, height } = sides;
+    let mut from = RIM * STEP + HALO;
+    let mut to = 0;
     for row in 0..height {
         if marks[row] != 0 {
-            show_row(plane, (row + RIM) * STEP + HALO, width, out, row * width);
+            show_row(plane, from, width, out, to);
         }
+        from += STEP;
+        to += width;
     }
 }
 

@@ -45,8 +45,7 @@ use Rattle.history.proofs.Related.{Held, stage_of_lem, stage_one, stage_two}
 use Rattle.history.proofs.Run.{course, settled_stays, Begins, stops, goes, begins, pass_answer, step_pass}
 use Rattle.history.proofs.Sound.{ready_held, ready_empty}
 use Rattle.seq.proofs.Lists.{clash, either}
-use Rattle.verdict.specs.declared.Refusal.{Refusal}
-use Rattle.verdict.specs.Rules.{refusal, refuse_if, judge, Verdict}
+use Rattle.verdict.specs.Rules.{refusal, refuse_if, judge, Verdict, Refusal}
 use Rattle.verdict.proofs.Rules.{refused_accepted}
 
 -- at rest nothing is charged; else the channel has no pass left, or the pass is charged

@@ -31,8 +31,7 @@ use Rattle.verdict.specs.declared.Rule.TheVariants as why
 use Rattle.history.proofs.Passes.{pass_stable, Changes, changed}
 use Rattle.history.proofs.Ready.{accepted_ready, ready_accepted}
 use Rattle.seq.proofs.Lists.{either}
-use Rattle.verdict.specs.declared.Refusal.{Refusal}
-use Rattle.verdict.specs.Rules.{refusal, or_else, Verdict}
+use Rattle.verdict.specs.Rules.{refusal, or_else, Verdict, Refusal}
 use Rattle.verdict.proofs.Rules.{judge_last, or_else_assoc}
 
 -- refused with nothing done

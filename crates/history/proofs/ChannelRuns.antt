@@ -31,8 +31,7 @@ use Rattle.history.proofs.Quotas.{rule_charged, rule_charged_for, available_char
 use Rattle.history.proofs.Runs.{after, after_ends, goes_next, goes_few, ends}
 use Rattle.seq.proofs.Tests.{lt_or_le}
 use Rattle.verdict.specs.Answers.{verdict_of}
-use Rattle.verdict.specs.declared.Refusal.{Refusal}
-use Rattle.verdict.specs.Rules.{refusal, Verdict}
+use Rattle.verdict.specs.Rules.{refusal, Verdict, Refusal}
 use Rattle.verdict.proofs.Rules.{refused_accepted}
 
 module _ (q : Quota) (i : ℕ) (s : State) where

@@ -28,8 +28,7 @@ use Rattle.history.proofs.Ready.{ready_accepted}
 use Rattle.history.proofs.Runs.{goes_next}
 use Rattle.history.proofs.Unsound.{sound_ready}
 use Rattle.verdict.specs.Answers.{verdict_of}
-use Rattle.verdict.specs.declared.Refusal.{Refusal}
-use Rattle.verdict.specs.Rules.{refusal}
+use Rattle.verdict.specs.Rules.{refusal, Refusal}
 use Rattle.verdict.proofs.Rules.{refused_accepted}
 
 -- 14's pass clause comes after 24

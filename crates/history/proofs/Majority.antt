@@ -34,8 +34,7 @@ use Rattle.image.specs.Padding.{cleared}
 use Rattle.operator.proofs.Majority.{majority_exchanged, majority_ordered}
 use Rattle.operator.specs.Image.{exchange, Below}
 use Rattle.table.specs.declared.Table.{Table}
-use Rattle.verdict.specs.declared.Refusal.{Refusal}
-use Rattle.verdict.specs.Rules.{refuse_if, judge, Verdict, number_of}
+use Rattle.verdict.specs.Rules.{refuse_if, judge, Verdict, number_of, Refusal}
 use Rattle.verdict.proofs.Numbers.{one_of_other}
 use Rattle.verdict.proofs.Rules.{judge_within}
 

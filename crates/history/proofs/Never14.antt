@@ -23,9 +23,8 @@ use Rattle.history.proofs.Sources.{source_numbers}
 use Rattle.table.proofs.Verdicts.{record_numbers}
 use Rattle.table.specs.declared.Table.{Table}
 use Rattle.table.specs.Record.{record_verdict}
-use Rattle.verdict.specs.declared.Refusal.{Refusal}
 use Rattle.verdict.specs.Numbers.{by, OneOf, accepts, refuses}
-use Rattle.verdict.specs.Rules.{judge, number_of}
+use Rattle.verdict.specs.Rules.{judge, number_of, Refusal}
 use Rattle.verdict.proofs.Numbers.{says_if, says_or, one_of_more, one_of_other}
 
 -- because of the input

@@ -30,8 +30,7 @@ use Rattle.history.proofs.Runs.{goes_ready}
 use Rattle.history.proofs.Unsound.{unsound_words, sound_none, sound_ready}
 use Rattle.seq.proofs.Lists.{clash, not_true_false, or_cases, or_left, or_right}
 use Rattle.verdict.specs.Answers.{verdict_of}
-use Rattle.verdict.specs.declared.Refusal.{Refusal}
-use Rattle.verdict.specs.Rules.{refusal}
+use Rattle.verdict.specs.Rules.{refusal, Refusal}
 use Rattle.verdict.proofs.Rules.{refused_accepted}
 
 -- where none of the conditions holds, the test does not

@@ -31,11 +31,10 @@ use Rattle.image.specs.Strip.{heights_of}
 use Rattle.image.specs.Padding.{unused_zero, cleared}
 use Rattle.table.proofs.Verdicts.{record_numbers}
 use Rattle.table.specs.declared.Table.{Table}
-use Rattle.verdict.specs.declared.Refusal.{Refusal}
 use Rattle.verdict.specs.Numbers.{by, OneOf}
 use Rattle.verdict.proofs.Numbers.{one_of_more, one_of_other}
 use Rattle.verdict.proofs.Rules.{or_else_left}
-use Rattle.verdict.specs.Rules.{number_of}
+use Rattle.verdict.specs.Rules.{number_of, Refusal}
 
 abbrev load_numbers : List ℕ
 load_numbers = 3 ∷ 4 ∷ 5 ∷ 6 ∷ 7 ∷ 13 ∷ 14 ∷ 15 ∷ 18 ∷ file_numbers

@@ -20,8 +20,7 @@ use Rattle.history.specs.State.{State, pixels, image, ready_verdict}
 use Rattle.verdict.specs.declared.Rule.TheVariants as why
 use Rattle.history.proofs.Areas.{next_job}
 use Rattle.history.proofs.Ready.{accepted_ready, ready_changed}
-use Rattle.verdict.specs.declared.Refusal.{Refusal}
-use Rattle.verdict.specs.Rules.{refusal, Verdict}
+use Rattle.verdict.specs.Rules.{refusal, Verdict, Refusal}
 
 module _ (s : State) where
   pub pass_refused : {r : Refusal} → ready_verdict s ≡ Err r → pass_of s ≡ record { answer = Err r; state = s }

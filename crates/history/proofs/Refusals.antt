@@ -31,9 +31,8 @@ use Rattle.seq.proofs.Lists.{clash}
 use Rattle.table.specs.declared.Table.{Table}
 use Rattle.table.specs.Record.{record_verdict}
 use Rattle.verdict.specs.Answers.{verdict_of}
-use Rattle.verdict.specs.declared.Refusal.{Refusal}
 use Rattle.verdict.specs.Numbers.{Says, accepts}
-use Rattle.verdict.specs.Rules.{refusal, judge, Verdict}
+use Rattle.verdict.specs.Rules.{refusal, judge, Verdict, Refusal}
 use Rattle.verdict.specs.Writer.{written_of}
 use Rattle.verdict.proofs.Numbers.{says_if, says_or}
 use Rattle.verdict.proofs.Rules.{refused_accepted}

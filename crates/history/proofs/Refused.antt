@@ -40,8 +40,7 @@ use Rattle.history.proofs.Related.{Held, RelatedTo}
 use Rattle.history.proofs.Run.{pass_answer, run_answer, ran_settled}
 use Rattle.history.proofs.Runs.{run_refused}
 use Rattle.history.proofs.Sound.{ready_empty, ready_held}
-use Rattle.verdict.specs.declared.Refusal.{Refusal}
-use Rattle.verdict.specs.Rules.{refusal, judge, Verdict}
+use Rattle.verdict.specs.Rules.{refusal, judge, Verdict, Refusal}
 use Rattle.verdict.proofs.Rules.{refused_accepted, or_else_accepted}
 
 -- a pass on an empty job, and so a run, is refused by 16 and alters nothing

@@ -22,7 +22,7 @@ use Rattle.history.specs.Sound.{Ready}
 use Rattle.history.specs.State.{State, pixels, ready_verdict}
 use Rattle.history.proofs.Passes.{pass_refused, changed}
 use Rattle.seq.proofs.Tests.{lt_or_le}
-use Rattle.verdict.specs.declared.Refusal.{Refusal}
+use Rattle.verdict.specs.Rules.{Refusal}
 
 -- what follows the first of several passes, by its answer
 abbrev pub after {ℓ} : {A : Type ℓ} → A → A → Passed → A

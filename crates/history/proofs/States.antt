@@ -44,10 +44,9 @@ use Rattle.seq.proofs.Lists.{clash, either}
 use Rattle.table.specs.declared.Table.{Table}
 use Rattle.table.specs.Record.{record_verdict}
 use Rattle.verdict.specs.Answers.{verdict_of}
-use Rattle.verdict.specs.declared.Refusal.{Refusal}
 use Rattle.verdict.specs.declared.Rule.{Rule}
 use Rattle.verdict.specs.Numbers.{among}
-use Rattle.verdict.specs.Rules.{refusal, refuse_if, or_else, judge, Verdict, number_of, number}
+use Rattle.verdict.specs.Rules.{refusal, refuse_if, or_else, judge, Verdict, number_of, number, Refusal}
 use Rattle.verdict.proofs.Numbers.{one_of_passes}
 use Rattle.verdict.proofs.Rules.{refused_accepted, or_else_accepted, judge_append}
 

@@ -23,9 +23,8 @@ use Rattle.image.proofs.ThreeFiles.{three_says}
 use Rattle.table.proofs.Witness.{witnesses}
 use Rattle.table.specs.declared.Table.{Table}
 use Rattle.table.specs.Witness.{Neither, zeros, Witness, neither}
-use Rattle.verdict.specs.declared.Refusal.{Refusal}
 use Rattle.verdict.specs.Numbers.{Says, accepts, refuses, among, by}
-use Rattle.verdict.specs.Rules.{refusal, Verdict, number_of}
+use Rattle.verdict.specs.Rules.{refusal, Verdict, number_of, Refusal}
 use Rattle.verdict.proofs.Numbers.{says_if, says_or, says_more, one_of_passes}
 
 source_says : (x : Source) → Says Neither (source_verdict x)

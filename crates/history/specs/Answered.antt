@@ -15,8 +15,7 @@ use Rattle.history.specs.History as book
 use Rattle.history.specs.History.{Entry, History, empty, holds, Lengths, ran, files_of, refused_by}
 use Rattle.history.specs.Lists.{over_steps}
 use Rattle.history.specs.View.{cover}
-use Rattle.verdict.specs.declared.Refusal.{Refusal}
-use Rattle.verdict.specs.Rules.{refusal, Verdict}
+use Rattle.verdict.specs.Rules.{refusal, Verdict, Refusal}
 use Rattle.verdict.specs.Writer.{written_of, output_of}
 
 abbrev pub rest_if : Bool → Passed

@@ -9,7 +9,7 @@ use Rattle.std.specs.Prelude.{ℕ, ℤ, pos, Ok, Err, Result}
 use Rattle.history.specs.declared.Effect.{Effect}
 use Rattle.history.specs.declared.Effect.TheVariants.{Changed, Stable}
 use Rattle.history.specs.declared.Figures.{Figures}
-use Rattle.verdict.specs.declared.Refusal.{Refusal}
+use Rattle.verdict.specs.Rules.{Refusal}
 
 abbrev pub Passed : Type 0
 Passed = Result Effect Refusal

@@ -19,8 +19,7 @@ use Rattle.history.specs.State.{State, ready_verdict}
 use Rattle.history.specs.View.{view_of, figures_of}
 use Rattle.table.specs.declared.Table.{Table}
 use Rattle.verdict.specs.Answers.{verdict_of}
-use Rattle.verdict.specs.declared.Refusal.{Refusal}
-use Rattle.verdict.specs.Rules.{Verdict}
+use Rattle.verdict.specs.Rules.{Verdict, Refusal}
 use Rattle.verdict.specs.Writer.{Written}
 
 pub data Call : Type 0 where

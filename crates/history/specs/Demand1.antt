@@ -29,10 +29,9 @@ use Rattle.history.specs.Source.{Source, source_verdict, source_width, source_he
 use Rattle.history.specs.State.{State, pixels}
 use Rattle.table.specs.declared.Table.{Table}
 use Rattle.table.specs.Record.{record_verdict}
-use Rattle.verdict.specs.declared.Refusal.{Refusal}
 use Rattle.verdict.specs.declared.Rule.{Rule}
 use Rattle.verdict.specs.Numbers.{among}
-use Rattle.verdict.specs.Rules.{refusal, refuse_if, judge, Verdict, number_of, number}
+use Rattle.verdict.specs.Rules.{refusal, refuse_if, judge, Verdict, number_of, number, Refusal}
 use Rattle.verdict.specs.declared.Rule.TheVariants as why
 
 abbrev pub after_passes : ℕ → State → State

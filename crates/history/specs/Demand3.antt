@@ -35,8 +35,7 @@ use Rattle.image.specs.Strip.{strip_of, shape_verdict, PartsBack}
 use Rattle.seq.specs.Lists.{one, sum_of}
 use Rattle.table.specs.declared.Table.{Table}
 use Rattle.table.specs.Record.{record_verdict}
-use Rattle.verdict.specs.declared.Refusal.{Refusal}
-use Rattle.verdict.specs.Rules.{number_of}
+use Rattle.verdict.specs.Rules.{number_of, Refusal}
 
 pub record Agrees (s : State) (e : Entry) : Type 0 where
   pub table : s.job.table ≡ e.table

@@ -19,8 +19,7 @@ use Rattle.image.specs.Padding.{cleared}
 use Rattle.operator.specs.Image.{exchange, Below}
 use Rattle.table.specs.declared.Table.{Table}
 use Rattle.table.specs.Record.{record_verdict}
-use Rattle.verdict.specs.declared.Refusal.{Refusal}
-use Rattle.verdict.specs.Rules.{refuse_if, judge, number_of}
+use Rattle.verdict.specs.Rules.{refuse_if, judge, number_of, Refusal}
 use Rattle.verdict.specs.declared.Rule.TheVariants as why
 
 abbrev pub majority_file : List ℕ → List ℕ → List ℕ → List ℕ

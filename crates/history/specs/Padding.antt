@@ -10,8 +10,7 @@ use Rattle.history.specs.State.{State, image}
 use Rattle.image.specs.Padding.{unused_zero, cleared}
 use Rattle.image.specs.Strip.{heights_of, start_of, file_of}
 use Rattle.table.specs.declared.Table.{Table}
-use Rattle.verdict.specs.declared.Refusal.{Refusal}
-use Rattle.verdict.specs.Rules.{number_of}
+use Rattle.verdict.specs.Rules.{number_of, Refusal}
 
 abbrev pub part_file : State → ℕ → List ℕ
 part_file s = file_of s.job.width (heights_of s.job.strip) (image s)

@@ -5,7 +5,7 @@
 use Rattle.history.specs.Call.{Call, load, pass, run, view, figures, collect, channel_pass, channel_run, answer_of, refusal_of}
 use Rattle.history.specs.State.{State}
 use Rattle.table.specs.Witness.{Neither, Witness}
-use Rattle.verdict.specs.declared.Refusal.{Refusal}
+use Rattle.verdict.specs.Rules.{Refusal}
 use Rattle.verdict.specs.Numbers.{Says}
 
 abbrev pub Told : Call → Refusal → Type 0

@@ -23,9 +23,8 @@ use Rattle.seq.proofs.Grid.{grid}
 use Rattle.seq.proofs.Members.{all_tab}
 use Rattle.seq.proofs.Tab.{length_tab}
 use Rattle.seq.specs.Lists.{all}
-use Rattle.verdict.specs.declared.Refusal.{Refusal}
 use Rattle.verdict.specs.Numbers.{Says, accepts, by, OneOf}
-use Rattle.verdict.specs.Rules.{refusal, refuse_if}
+use Rattle.verdict.specs.Rules.{refusal, refuse_if, Refusal}
 use Rattle.verdict.proofs.Numbers.{says_if, says_or}
 use Rattle.verdict.proofs.Rules.{or_else_left, or_else_right, refuse_if_accepted}
 

@@ -1,6 +1,6 @@
 -- An image that is packed row by row.
 --     row_packed       a row's bytes, by its pixels
---     ImagePacked      where the loop over the rows stands: the rows passed are packed
+--     ImagePacked      where the loop over the rows stands: the rows passed are packed, and the next starts at `from` in the pixels, at `to` in the raster
 --     rows_fit, rows_more, rows_all    the row at hand lies in pixels and raster; a row; the end
 -- Assumes nothing.
 use mathlib.Core.List.{List, ◌++◌}
@@ -33,35 +33,39 @@ row_packed px w row j =
     past : (c : ℕ) → w ≤ c → get_or (take w (drop (row * w) px)) c 0 ≡ in_row w px row c
     past c l = get_or-eq_default (take w (drop (row * w) px)) 0 (simp length-take (omega arith)) ∙ sym (simp (le-ltb c w l))
 
-pub record ImagePacked (px : List ℕ) (w : ℕ) (d : List ℕ) (bytes : ℕ) (raster : List ℕ) (row : ℕ) : Type 0 where
+pub record ImagePacked (px : List ℕ) (w : ℕ) (d : List ℕ) (bytes : ℕ) (raster : List ℕ) (from to row : ℕ) : Type 0 where
   pub wide : bytes ≡ row_bytes w
+  pub source : from ≡ row * w
+  pub target : to ≡ row * row_bytes w
   pub rows : Filled (grid (row_bytes w) (row_byte w px)) d raster (row * row_bytes w)
 
-module _ {px : List ℕ} {w : ℕ} {d : List ℕ} {bytes : ℕ} {raster : List ℕ} {row : ℕ} (s : ImagePacked px w d bytes raster row) where
+module _ {px : List ℕ} {w : ℕ} {d : List ℕ} {bytes : ℕ} {raster : List ℕ} {from to row : ℕ} (s : ImagePacked px w d bytes raster from to row) where
   module _ {h : ℕ} (count : length px ≡ w * h) (room : length d ≡ row_bytes w * h) (l : row < h) where
-    pub rows_fit : (row * w + w ≤ length px) × (row * bytes + bytes ≤ length raster)
-    rows_fit = (omega (arith, count, row_below w l), rw s.wide (omega (arith, room, fill_length s.rows, row_below (row_bytes w) l)))
+    pub rows_fit : (from + w ≤ length px) × (to + bytes ≤ length raster)
+    rows_fit = (omega (arith, count, row_below w l, s.source), omega (arith, room, fill_length s.rows, row_below (row_bytes w) l, s.target, s.wide))
 
-    pub rows_more : {new : List ℕ} → new ≡ tab (packed_row (take (row * w + w - row * w) (drop (row * w) px))) (length (take (row * bytes + bytes - row * bytes) (drop (row * bytes) raster)))
-        → ImagePacked px w d bytes (take (row * bytes) raster ++ (new ++ drop (row * bytes + bytes - row * bytes) (drop (row * bytes) raster))) (row + 1)
+    pub rows_more : {new : List ℕ} → new ≡ tab (packed_row (take (from + w - from) (drop from px))) (length (take (to + bytes - to) (drop to raster)))
+        → ImagePacked px w d bytes (take to raster ++ (new ++ drop (to + bytes - to) (drop to raster))) (from + w) (to + bytes) (row + 1)
     rows_more {new} e = record {
       wide = s.wide;
+      source = omega (arith, s.source);
+      target = omega (arith, s.target, s.wide);
       rows = fill_row (row_bytes w) (row_byte w px) row s.rows (omega (arith, room, row_below (row_bytes w) l)) stored;
     }
       where
         cells : List ℕ
-        cells = take (row * w + w - row * w) (drop (row * w) px)
+        cells = take (from + w - from) (drop from px)
 
         same : (j : ℕ) → packed_row cells j ≡ row_byte w px row j
-        same j = let cut : row * w + w - row * w ≡ w = omega arith in rw cut (row_packed px w row j)
+        same j = let cut : from + w - from ≡ w = omega arith in rw (cut, s.source) (row_packed px w row j)
 
-        stored : take (row * bytes) raster ++ (new ++ drop (row * bytes + bytes - row * bytes) (drop (row * bytes) raster)) ≡ sets raster (row * row_bytes w) (tab (row_byte w px row) (row_bytes w))
+        stored : take to raster ++ (new ++ drop (to + bytes - to) (drop to raster)) ≡ sets raster (row * row_bytes w) (tab (row_byte w px row) (row_bytes w))
         stored =
-            put_part (packed_row cells) bytes raster (row * bytes) (omega arith) rows_fit.1 e
-            ∙ ap (sets raster (row * bytes)) (tab_ext (packed_row cells) (row_byte w px row) bytes (λ j b. same j))
-            ∙ rw s.wide
+            put_part (packed_row cells) bytes raster to (omega arith) rows_fit.1 e
+            ∙ ap (sets raster to) (tab_ext (packed_row cells) (row_byte w px row) bytes (λ j b. same j))
+            ∙ rw (s.target, s.wide)
 
-pub rows_all : {px : List ℕ} {w h : ℕ} {d : List ℕ} {bytes : ℕ} {raster : List ℕ} {row : ℕ} → ImagePacked px w d bytes raster row
+pub rows_all : {px : List ℕ} {w h : ℕ} {d : List ℕ} {bytes : ℕ} {raster : List ℕ} {from to row : ℕ} → ImagePacked px w d bytes raster from to row
     → length d ≡ row_bytes w * h → row ≡ h → raster ≡ tab (grid (row_bytes w) (row_byte w px)) (row_bytes w * h)
 rows_all {w = w} {h = h} {d = d} {row = row} s n e =
     let end : row * row_bytes w ≡ length d = omega (arith, n, ap (λ (k : ℕ). k * row_bytes w) e, mul_comm (row_bytes w) h) in

@@ -19,8 +19,7 @@ use Rattle.image.proofs.Facts.{file_good}
 use Rattle.image.proofs.HeaderOf.{raster_part}
 use Rattle.image.proofs.LayoutOf.{start_within}
 use Rattle.image.proofs.RowBytes.{sides}
-use Rattle.verdict.specs.declared.Refusal.{Refusal}
-use Rattle.verdict.specs.Rules.{Verdict, result_of}
+use Rattle.verdict.specs.Rules.{Verdict, result_of, Refusal}
 use Rattle.verdict.specs.Writer.{output_of}
 
 -- an accepted file with its size, and the raster as a part of the file

@@ -28,8 +28,7 @@ use Rattle.image.proofs.Searches.{position_first, found_below}
 use Rattle.image.proofs.Strips.{strip_good}
 use Rattle.seq.proofs.Tab.{first_ext}
 use Rattle.seq.specs.Tab.{first}
-use Rattle.verdict.specs.declared.Refusal.{Refusal}
-use Rattle.verdict.specs.Rules.{refusal, refuse_at, Verdict}
+use Rattle.verdict.specs.Rules.{refusal, refuse_at, Verdict, Refusal}
 use Rattle.verdict.specs.Writer.{over}
 use Rattle.verdict.proofs.Rules.{or_else_left, or_else_accepted}
 

@@ -27,9 +27,8 @@ use Rattle.seq.proofs.Members.{all_tab}
 use Rattle.seq.proofs.Tab.{tab_get_d}
 use Rattle.seq.specs.Lists.{all}
 use Rattle.seq.specs.Tab.{first}
-use Rattle.verdict.specs.declared.Refusal.{Refusal}
 use Rattle.verdict.specs.Numbers.{Says, accepts, by, OneOf}
-use Rattle.verdict.specs.Rules.{refusal}
+use Rattle.verdict.specs.Rules.{refusal, Refusal}
 use Rattle.verdict.proofs.Numbers.{says_if, says_at, says_or}
 use Rattle.verdict.proofs.Rules.{or_else_left, or_else_right}
 

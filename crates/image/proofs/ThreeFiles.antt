@@ -38,9 +38,8 @@ use Rattle.seq.proofs.Bits.{and_digit, or_digit}
 use Rattle.seq.proofs.Grid.{cell_below, grid, grid_ext}
 use Rattle.seq.proofs.Lists.{and_left, and_right, either}
 use Rattle.seq.proofs.Tab.{length_tab, get_d_tab, tab_ext, tab_get_d}
-use Rattle.verdict.specs.declared.Refusal.{Refusal}
 use Rattle.verdict.specs.Numbers.{Says, accepts}
-use Rattle.verdict.specs.Rules.{refusal, refuse_if, judge, Verdict}
+use Rattle.verdict.specs.Rules.{refusal, refuse_if, judge, Verdict, Refusal}
 use Rattle.verdict.specs.Writer.{output_of}
 use Rattle.verdict.proofs.Numbers.{says_if, says_or}
 use Rattle.verdict.proofs.Rules.{or_else_left, or_else_right, refuse_if_accepted}

@@ -1,6 +1,6 @@
 -- A raster that is unpacked row by row, and a row byte by byte.
 --     row_more, row_rest, row_all    a loop over a row's bytes: a whole byte, the byte with the rest of the row, its end
---     ImageDone        where the loop over the rows stands: the rows passed are unpacked
+--     ImageDone        where the loop over the rows stands: the rows passed are unpacked, and the next starts at `from` in the raster, at `to` in the pixels
 --     image_fits, image_more, image_all    the row at hand lies in raster and image; a row; the end
 --     FilledBy         the answer and the area afterwards; fill_done: it is filled
 -- Assumes nothing.
@@ -53,37 +53,45 @@ module _ (bytes : List ℕ) {d row : List ℕ} (j : ℕ) (s : Filled (row_pixel 
   unfolding row_bytes
   row_all q n l = let end : 8 * j ≡ length d = omega (arith, n) in fill_whole (rw end at s)
 
-pub record ImageDone (r : List ℕ) (w : ℕ) (d : List ℕ) (bytes : ℕ) (pixels : List ℕ) (row : ℕ) : Type 0 where
+pub record ImageDone (r : List ℕ) (w : ℕ) (d : List ℕ) (bytes : ℕ) (pixels : List ℕ) (from to row : ℕ) : Type 0 where
   pub wide : bytes ≡ row_bytes w
+  pub source : from ≡ row * row_bytes w
+  pub target : to ≡ row * w
   pub rows : Filled (grid w (raster_pixel w r)) d pixels (row * w)
 
-module _ {r : List ℕ} {w : ℕ} {d : List ℕ} {bytes : ℕ} {pixels : List ℕ} {row : ℕ} (s : ImageDone r w d bytes pixels row) where
+module _ {r : List ℕ} {w : ℕ} {d : List ℕ} {bytes : ℕ} {pixels : List ℕ} {from to row : ℕ} (s : ImageDone r w d bytes pixels from to row) where
   module _ {h : ℕ} (count : length r ≡ row_bytes w * h) (room : length d ≡ w * h) (l : row < h) where
-    pub image_fits : (row * bytes + bytes ≤ length r) × (row * w + w ≤ length pixels)
-    image_fits = (rw s.wide (omega (arith, count, row_below (row_bytes w) l)), omega (arith, room, fill_length s.rows, row_below w l))
+    pub image_fits : (from + bytes ≤ length r) × (to + w ≤ length pixels)
+    image_fits = (omega (arith, count, row_below (row_bytes w) l, s.source, s.wide), omega (arith, room, fill_length s.rows, row_below w l, s.target))
 
     -- a pixel of the part of the raster that the code takes for the row
-    same : (c : ℕ) → c < w → row_pixel (take (row * bytes + bytes - row * bytes) (drop (row * bytes) r)) c ≡ raster_pixel w r row c
+    same : (c : ℕ) → c < w → row_pixel (take (from + bytes - from) (drop from r)) c ≡ raster_pixel w r row c
     unfolding raster_pixel
     same c b =
         ap (λ (x : ℕ). x / 2 ^ (7 - c % 8) % 2)
-        (get_or-take (row * bytes + bytes - row * bytes) (drop (row * bytes) r) (c / 8) 0 (omega (arith, s.wide, row_bytes_fit w))
-        ∙ get_or-drop (row * bytes) r (c / 8) 0
-        ∙ rw s.wide)
+        (get_or-take (from + bytes - from) (drop from r) (c / 8) 0 (omega (arith, s.wide, row_bytes_fit w))
+        ∙ get_or-drop from r (c / 8) 0
+        ∙ rw s.source)
 
-    pub image_more : {new : List ℕ} → new ≡ tab (row_pixel (take (row * bytes + bytes - row * bytes) (drop (row * bytes) r))) (length (take (row * w + w - row * w) (drop (row * w) pixels)))
-        → ImageDone r w d bytes (take (row * w) pixels ++ (new ++ drop (row * w + w - row * w) (drop (row * w) pixels))) (row + 1)
-    image_more {new} e = record { wide = s.wide; rows = fill_row w (raster_pixel w r) row s.rows (omega (arith, room, row_below w l)) stored }
+    pub image_more : {new : List ℕ} → new ≡ tab (row_pixel (take (from + bytes - from) (drop from r))) (length (take (to + w - to) (drop to pixels)))
+        → ImageDone r w d bytes (take to pixels ++ (new ++ drop (to + w - to) (drop to pixels))) (from + bytes) (to + w) (row + 1)
+    image_more {new} e = record {
+      wide = s.wide;
+      source = omega (arith, s.source, s.wide);
+      target = omega (arith, s.target);
+      rows = fill_row w (raster_pixel w r) row s.rows (omega (arith, room, row_below w l)) stored;
+    }
       where
         part : List ℕ
-        part = take (row * bytes + bytes - row * bytes) (drop (row * bytes) r)
+        part = take (from + bytes - from) (drop from r)
 
-        stored : take (row * w) pixels ++ (new ++ drop (row * w + w - row * w) (drop (row * w) pixels)) ≡ sets pixels (row * w) (tab (raster_pixel w r row) w)
+        stored : take to pixels ++ (new ++ drop (to + w - to) (drop to pixels)) ≡ sets pixels (row * w) (tab (raster_pixel w r row) w)
         stored =
-            put_part (row_pixel part) w pixels (row * w) (omega arith) image_fits.1 e
-            ∙ ap (sets pixels (row * w)) (tab_ext (row_pixel part) (raster_pixel w r row) w same)
+            put_part (row_pixel part) w pixels to (omega arith) image_fits.1 e
+            ∙ ap (sets pixels to) (tab_ext (row_pixel part) (raster_pixel w r row) w same)
+            ∙ rw s.target
 
-pub image_all : {r : List ℕ} {w h : ℕ} {d : List ℕ} {bytes : ℕ} {pixels : List ℕ} {row : ℕ} → ImageDone r w d bytes pixels row
+pub image_all : {r : List ℕ} {w h : ℕ} {d : List ℕ} {bytes : ℕ} {pixels : List ℕ} {from to row : ℕ} → ImageDone r w d bytes pixels from to row
     → length d ≡ w * h → row ≡ h → pixels ≡ pixels_of w h r
 unfolding pixels_of
 image_all {w = w} {h = h} {d = d} {row = row} s n e =

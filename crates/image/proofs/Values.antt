@@ -1,6 +1,6 @@
 -- The search for a pixel byte above 1, row by row.
 --     exceeds_first      what the code finds in a row, as the search of the definition
---     RowsClean          no byte above 1 in a row passed
+--     RowsClean          where the loop stands: the place of the row's first pixel, and no byte above 1 in a row passed
 --     clean_more         a row more
 --     clean_fits         the row at hand lies in the pixels
 --     clean_found, clean_all     what the search finds: this row; none
@@ -40,8 +40,9 @@ exceeds_first b (v ∷ row) =
     ∙ or_assoc b (ltb 1 v) (is_some (first (λ c. ltb 1 (get_or row c 0)) (length row)))
     ∙ ap (λ (t : Bool). b || t) (sym (some_or (ltb 1 v) (first (λ c. ltb 1 (get_or row c 0)) (length row))))
 
-abbrev pub RowsClean : List ℕ → ℕ → ℕ → Type 0
-RowsClean px w row = (k : ℕ) → k < row → row_passes (too_large px) w k ≡ false
+pub record RowsClean (px : List ℕ) (w start row : ℕ) : Type 0 where
+  pub place : start ≡ row * w
+  pub clean : (k : ℕ) → k < row → row_passes (too_large px) w k ≡ false
 
 -- the rule of the definition, over the rows
 by_rows : (px : List ℕ) (w h : ℕ) (o : Option ℕ) → first (row_passes (too_large px) w) h ≡ o
@@ -49,14 +50,14 @@ by_rows : (px : List ℕ) (w h : ℕ) (o : Option ℕ) → first (row_passes (to
 by_rows px w h o e =
     refuse_at_map (first (too_large px) (w * h)) why.PixelValue (λ i. i / w) ∙ ap (λ (o : Option ℕ). refuse_at o why.PixelValue (λ row. row)) (first_rows (too_large px) w h ∙ e)
 
-module _ (px : List ℕ) (w : ℕ) {h : ℕ} (count : length px ≡ w * h) {row : ℕ} (clean : RowsClean px w row) (l : row < h) where
-  pub clean_fits : row * w + w ≤ length px
-  clean_fits = omega (arith, row_below w l, count)
+module _ (px : List ℕ) (w : ℕ) {h : ℕ} (count : length px ≡ w * h) {start row : ℕ} (s : RowsClean px w start row) (l : row < h) where
+  pub clean_fits : start + w ≤ length px
+  clean_fits = omega (arith, row_below w l, count, s.place)
 
   -- what the code found in the row at hand
-  module _ {b : Bool} (here : b ≡ noted false (take (row * w + w - row * w) (drop (row * w) px))) where
+  module _ {b : Bool} (here : b ≡ noted false (take (start + w - start) (drop start px))) where
     abbrev part : List ℕ
-    part = take (row * w + w - row * w) (drop (row * w) px)
+    part = take (start + w - start) (drop start px)
 
     long : length part ≡ w
     long = simp (length-take, length-drop) (omega (arith, clean_fits))
@@ -67,14 +68,18 @@ module _ (px : List ℕ) (w : ℕ) {h : ℕ} (count : length px ≡ w * h) {row 
         ∙ exceeds_first false part
         ∙ ap (λ (n : ℕ). is_some (first (λ c. ltb 1 (get_or part c 0)) n)) long
         ∙ ap is_some
-        (first_ext (λ c. ltb 1 (get_or part c 0)) (λ c. too_large px (row * w + c)) w
-        (λ c k. ap (ltb 1) (get_or-take (row * w + w - row * w) (drop (row * w) px) c 0 (omega arith) ∙ get_or-drop (row * w) px c 0))))
+        (first_ext (λ c. ltb 1 (get_or part c 0)) (λ c. too_large px (start + c)) w
+        (λ c k. ap (ltb 1) (get_or-take (start + w - start) (drop start px) c 0 (omega arith) ∙ get_or-drop start px c 0)))
+        ∙ ap (λ (i : ℕ). is_some (first (λ c. too_large px (i + c)) w)) s.place)
 
-    pub clean_more : b ≡ false → RowsClean px w (row + 1)
-    clean_more e = below_more (λ k. row_passes (too_large px) w k ≡ false) row clean (passes ∙ e)
+    pub clean_more : b ≡ false → RowsClean px w (start + w) (row + 1)
+    clean_more e = record {
+      place = omega (arith, s.place);
+      clean = below_more (λ k. row_passes (too_large px) w k ≡ false) row s.clean (passes ∙ e);
+    }
 
     pub clean_found : b ≡ true → Err (refusal why.PixelValue row) ≡ refuse_at (first (too_large px) (w * h)) why.PixelValue (λ i. i / w)
-    clean_found e = sym (by_rows px w h (Some row) (first_at (row_passes (too_large px) w) h row l clean (passes ∙ e)))
+    clean_found e = sym (by_rows px w h (Some row) (first_at (row_passes (too_large px) w) h row l s.clean (passes ∙ e)))
 
-pub clean_all : (px : List ℕ) (w : ℕ) {h row : ℕ} → RowsClean px w row → row ≡ h → Ok tt ≡ refuse_at (first (too_large px) (w * h)) why.PixelValue (λ i. i / w)
-clean_all px w {h} clean e = sym (by_rows px w h None (first_none (row_passes (too_large px) w) h (λ k b. clean k (omega arith))))
+pub clean_all : (px : List ℕ) (w : ℕ) {h start row : ℕ} → RowsClean px w start row → row ≡ h → Ok tt ≡ refuse_at (first (too_large px) (w * h)) why.PixelValue (λ i. i / w)
+clean_all px w {h} s e = sym (by_rows px w h None (first_none (row_passes (too_large px) w) h (λ k b. s.clean k (omega arith))))

@@ -24,8 +24,7 @@ use Rattle.seq.proofs.Grid.{grid}
 use Rattle.seq.proofs.Stores.{sets_append, sets_front, sets_part}
 use Rattle.seq.proofs.Tab.{length_tab}
 use Rattle.seq.proofs.Tests.{lt_or_le}
-use Rattle.verdict.specs.declared.Refusal.{Refusal}
-use Rattle.verdict.specs.Rules.{refusal}
+use Rattle.verdict.specs.Rules.{refusal, Refusal}
 use Rattle.verdict.specs.Writer.{over}
 
 module _ (w h : ℕ) (px : List ℕ) where

@@ -19,8 +19,7 @@ use Rattle.image.specs.declared.size.Size.{Size}
 use Rattle.image.specs.Header.{raster, header_form, width_of, height_of, header}
 use Rattle.image.specs.Size.{bad_size, row_bytes, extent}
 use Rattle.seq.specs.Tab.{tab, first}
-use Rattle.verdict.specs.declared.Refusal.{Refusal}
-use Rattle.verdict.specs.Rules.{refuse_if, refuse_at, or_else, judge, Verdict, result_of}
+use Rattle.verdict.specs.Rules.{refuse_if, refuse_at, or_else, judge, Verdict, result_of, Refusal}
 use Rattle.verdict.specs.Writer.{written_of, output_of, Written}
 use Rattle.verdict.specs.declared.Rule.TheVariants as why
 

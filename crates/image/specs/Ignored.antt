@@ -4,8 +4,7 @@
 use Rattle.std.specs.Prelude.{List, ◌≢◌, ◌≡◌, ℕ, Err}
 use Rattle.image.specs.File.{image_verdict, image_read, image_area}
 use Rattle.image.specs.Padding.{cleared}
-use Rattle.verdict.specs.declared.Refusal.{Refusal}
-use Rattle.verdict.specs.Rules.{number_of}
+use Rattle.verdict.specs.Rules.{number_of, Refusal}
 
 pub record PaddingIgnored : Type 0 where
   -- the same answer, refusals too, and the same area afterwards

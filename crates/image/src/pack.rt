@@ -8,7 +8,8 @@ ghost use Rattle.seq.specs.Tab.{tab};
 use crate::size;
 use crate::size::{BYTE_PIXELS, Size};
 
-// All rows. That pixels are 0 or 1 stays in the contracts: a struct with this fact around each slice, cut anew for each byte, is no plainer.
+// All rows; `from` is the place of a row's first pixel, `to` that of its first byte.
+// That pixels are 0 or 1 stays in the contracts: a struct with this fact around each slice, cut anew for each byte, is no plainer.
 pub(crate) fn image(pixels: &[u8], size: Size, raster: &mut [u8])
     requires { Sides size.width size.height × Binary pixels.now × (length pixels.now ≡ size.width * size.height)
         × (length raster.old ≡ row_bytes size.width * size.height) }
@@ -16,10 +17,12 @@ pub(crate) fn image(pixels: &[u8], size: Size, raster: &mut [u8])
 {
     let Size { width, height } = size;
     let bytes = size::row_bytes(width);
-    for row in 0..height {
-        let from = row * width;
-        let to = row * bytes;
+    let mut from = 0;
+    let mut to = 0;
+    for _row in 0..height {
         pack_row(&pixels[from..from + width], &mut raster[to..to + bytes]);
+        from += width;
+        to += bytes;
     }
 }
 

@@ -25,17 +25,18 @@ pub(crate) fn check_bytes(pixels: &[u8], size: Size) -> Verdict
     check_values(pixels, size)
 }
 
-// Refuses the lowest row that has a byte above 1.
+// Refuses the lowest row that has a byte above 1; `start` is the place of a row's first pixel.
 fn check_values(pixels: &[u8], size: Size) -> Verdict
     requires { (1 ≤ size.width) × (length pixels.now ≡ size.width * size.height) }
     ensures { result ≡ refuse_at (first (too_large pixels.now) (size.width * size.height)) Rule.PixelValue (λ i. i / size.width) }
 {
     let Size { width, height } = size;
+    let mut start = 0;
     for row in 0..height {
-        let start = row * width;
         if exceeds(&pixels[start..start + width]) {
             return verdict::refused(Rule::PixelValue, row);
         }
+        start += width;
     }
     Ok(())
 }

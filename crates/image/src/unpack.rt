@@ -27,7 +27,7 @@ pub(crate) fn fill(raster: &[u8], size: Size, area: &mut [u8]) -> Result<Size, R
     Ok(size)
 }
 
-// All rows.
+// All rows; `from` is the place of a row's first byte, `to` that of its first pixel.
 fn image(raster: &[u8], size: Size, pixels: &mut [u8])
     requires { Sides size.width size.height × (length raster.now ≡ row_bytes size.width * size.height)
         × (length pixels.old ≡ size.width * size.height) }
@@ -35,10 +35,12 @@ fn image(raster: &[u8], size: Size, pixels: &mut [u8])
 {
     let Size { width, height } = size;
     let bytes = size::row_bytes(width);
-    for row in 0..height {
-        let from = row * bytes;
-        let to = row * width;
+    let mut from = 0;
+    let mut to = 0;
+    for _row in 0..height {
         unpack_row(&raster[from..from + bytes], &mut pixels[to..to + width]);
+        from += bytes;
+        to += width;
     }
 }
 

@@ -38,8 +38,7 @@ use Rattle.job.specs.Code.Passes.{made, Made}
 use Rattle.job.proofs.Runs.{made_goes, made_ends, made_one}
 use Rattle.seq.proofs.Tests.{lt_or_le}
 use Rattle.verdict.proofs.Rules.{or_else_left, or_else_right}
-use Rattle.verdict.specs.declared.Refusal.{Refusal}
-use Rattle.verdict.specs.Rules.{Verdict, or_else}
+use Rattle.verdict.specs.Rules.{Verdict, or_else, Refusal}
 use Rattle.history.specs.Answers.{Passed}
 use Rattle.history.specs.declared.Effect.TheVariants.{Changed, Stable}
 

@@ -31,8 +31,7 @@ use Rattle.seq.proofs.Tab.{length_tab, get_d_tab, tab_get_d}
 use Rattle.seq.proofs.Tests.{lt_or_le}
 use Rattle.seq.specs.Lists.{sum_of}
 use Rattle.seq.specs.Tab.{tab}
-use Rattle.verdict.specs.declared.Refusal.{Refusal}
-use Rattle.verdict.specs.Rules.{refusal, refuse_if, or_else}
+use Rattle.verdict.specs.Rules.{refusal, refuse_if, or_else, Refusal}
 
 -- a quota with other numbers left of the reserves, and another pool
 abbrev holding : Quota → List ℕ → ℕ → Quota

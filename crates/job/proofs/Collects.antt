@@ -21,8 +21,7 @@ use Rattle.image.specs.Strip.{heights_of, strip_width, strip_bytes, strip_write_
 use Rattle.verdict.specs.declared.Rule.TheVariants as why
 use Rattle.history.proofs.Ready.{accepted_ready, ready_parts, ready_writable}
 use Rattle.history.proofs.States.{collect_split}
-use Rattle.verdict.specs.declared.Refusal.{Refusal}
-use Rattle.verdict.specs.Rules.{refusal, refuse_if, Verdict}
+use Rattle.verdict.specs.Rules.{refusal, refuse_if, Verdict, Refusal}
 use Rattle.verdict.proofs.Rules.{or_else_accepted}
 use Rattle.verdict.specs.Writer.{Written}
 

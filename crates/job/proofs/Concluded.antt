@@ -30,7 +30,7 @@ use Rattle.filter.specs.declared.Repeated.{Repeated}
 use Rattle.filter.specs.Repeated.{begin, Ended, repeated, answered, answer, leaves, first_area, second_area}
 use Rattle.job.proofs.Trails.{standing, outcome, standing_image, standing_job, standing_first, standing_second, since_none, turn, followed, follow_made, Within, follow_within}
 use Rattle.seq.specs.Lists.{same}
-use Rattle.verdict.specs.declared.Refusal.{Refusal}
+use Rattle.verdict.specs.Rules.{Refusal}
 
 -- the filter's passes with the record's table, size and budget: as it is asked for them, and as they are
 abbrev asked : Job → ℕ → List ℕ → List ℕ → Result Ended Refusal

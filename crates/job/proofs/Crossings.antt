@@ -49,8 +49,7 @@ use Rattle.seq.proofs.Tests.{or_none_left}
 use Rattle.seq.specs.Lists.{sum_of}
 use Rattle.seq.specs.Tab.{tab}
 use Rattle.table.specs.declared.Table.{Table}
-use Rattle.verdict.specs.declared.Refusal.{Refusal}
-use Rattle.verdict.specs.Rules.{refusal}
+use Rattle.verdict.specs.Rules.{refusal, Refusal}
 use Rattle.verdict.specs.Writer.{over}
 
 none_more : (xs : List ℕ) → length xs ≡ max_parts → tab (λ i. get_or xs i 0 + get_or (tab (λ k. 0) max_parts) i 0) max_parts ≡ xs

@@ -30,9 +30,8 @@ use Rattle.image.specs.Strip.{strip_verdict, strip_of, kept}
 use Rattle.job.specs.declared.Reading.{Reading}
 use Rattle.job.specs.Code.Loads.{entered, both, LoadedBy}
 use Rattle.table.specs.declared.Table.{Table}
-use Rattle.verdict.specs.declared.Refusal.{Refusal}
 use Rattle.verdict.specs.Answers.{verdict_of}
-use Rattle.verdict.specs.Rules.{Verdict, or_else, judge}
+use Rattle.verdict.specs.Rules.{Verdict, or_else, judge, Refusal}
 use Rattle.verdict.specs.Writer.{over, output_of}
 use Rattle.verdict.proofs.Rules.{or_else_left, or_else_right, refuse_if_accepted, or_else_accepted, judge_append}
 

@@ -16,8 +16,7 @@ use Rattle.history.proofs.Parts.{resized, past, miscounted}
 use Rattle.image.proofs.Shapes.{padded_whole, shape_good}
 use Rattle.image.specs.Strip.{max_parts, shape_verdict}
 use Rattle.seq.specs.Lists.{sum_of}
-use Rattle.verdict.specs.declared.Refusal.{Refusal}
-use Rattle.verdict.specs.Rules.{Verdict}
+use Rattle.verdict.specs.Rules.{Verdict, Refusal}
 
 pub sums_whole : (n : ℕ) (xs : List ℕ) {b : Bool} → length xs ≡ max_parts → b ≡ eqb n (sum_of xs) → sums_to n xs ≡ b
 sums_whole n xs e p = ap (λ (l : List ℕ). eqb n (sum_of l)) (padded_whole xs e) ∙ sym p

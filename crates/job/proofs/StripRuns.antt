@@ -3,7 +3,7 @@
 --     going_none, more, all             the loop's start, one changing pass, and its last turn
 --     ends_stable, ends_refused         a pass that ends it
 -- Assumes nothing.
-use Rattle.verdict.specs.declared.Refusal.{Refusal}
+use Rattle.verdict.specs.Rules.{Refusal}
 use Rattle.std.specs.Prelude.{Ok, Err}
 use mathlib.Core.List.{List}
 use mathlib.Core.Path.{◌≡◌, refl, sym, ap, ◌∙◌}

@@ -21,8 +21,7 @@ use Rattle.history.specs.Sound.{Ready}
 use Rattle.history.proofs.Ready.{accepted_ready, ready_image, ready_small}
 use Rattle.image.specs.Strip.{max_strip}
 use Rattle.job.proofs.Black.{black_few}
-use Rattle.verdict.specs.declared.Refusal.{Refusal}
-use Rattle.verdict.specs.Rules.{Verdict}
+use Rattle.verdict.specs.Rules.{Verdict, Refusal}
 
 pub ready_by : {s : State} {v : Verdict} → v ≡ ready_verdict s → v ≡ Ok tt → Ready s
 ready_by {s} e f = accepted_ready s (sym e ∙ f)

@@ -19,9 +19,8 @@ use Rattle.table.specs.declared.number.Number.{Number}
 use Rattle.table.specs.Code.Cursor.{number_of, number_at}
 use Rattle.table.specs.Code.Reading.{Judged, NumberRead}
 use Rattle.table.specs.Number.{more, size, groups, value, ends, too_long, not_fewest, number_rules}
-use Rattle.verdict.specs.declared.Refusal.{Refusal}
 use Rattle.verdict.specs.declared.Rule.{Rule}
-use Rattle.verdict.specs.Rules.{refusal, refuse_if, or_else, judge, Verdict}
+use Rattle.verdict.specs.Rules.{refusal, refuse_if, or_else, judge, Verdict, Refusal}
 use Rattle.verdict.specs.declared.Rule.TheVariants as why
 
 -- the two answers

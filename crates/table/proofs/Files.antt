@@ -28,8 +28,7 @@ use Rattle.table.specs.Record.{max_elements, max_ranks, bad_count, bad_ranks, ba
 use Rattle.verdict.specs.declared.Rule.TheVariants as why
 use Rattle.table.proofs.Judging.{part_refuses, part_accepts}
 use Rattle.table.proofs.Tables.{masks_rules_lem}
-use Rattle.verdict.specs.declared.Refusal.{Refusal}
-use Rattle.verdict.specs.Rules.{refusal, refuse_if, or_else, judge, Verdict, result_of}
+use Rattle.verdict.specs.Rules.{refusal, refuse_if, or_else, judge, Verdict, result_of, Refusal}
 use Rattle.verdict.proofs.Rules.{judge_append, judge_last, or_else_accepted}
 
 pub record Left (f : List ℕ) (parts : List (List Verdict)) : Type 0 where

@@ -14,9 +14,8 @@ use Rattle.seq.specs.Tab.{up_to}
 use Rattle.seq.proofs.Joins.{join_up_to}
 use Rattle.seq.proofs.Lists.{join_intro, map_intro}
 use Rattle.seq.proofs.Tab.{up_to_intro}
-use Rattle.verdict.specs.declared.Refusal.{Refusal}
 use Rattle.verdict.specs.Numbers.{Says, accepts}
-use Rattle.verdict.specs.Rules.{or_else, judge, Verdict}
+use Rattle.verdict.specs.Rules.{or_else, judge, Verdict, Refusal}
 use Rattle.verdict.proofs.Numbers.{says_append}
 use Rattle.verdict.proofs.Rules.{refused_accepted, judge_append, judge_accepted, accepted_judge, or_else_left, or_else_right}
 

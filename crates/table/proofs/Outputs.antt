@@ -12,8 +12,7 @@ use lib.ListN.{length}
 use Rattle.table.specs.declared.Table.{Table}
 use Rattle.table.specs.File.{table_bytes, table_verdict, written_table, table_output}
 use Rattle.table.specs.Record.{record_verdict}
-use Rattle.verdict.specs.declared.Refusal.{Refusal}
-use Rattle.verdict.specs.Rules.{refusal, refuse_if, or_else, Verdict}
+use Rattle.verdict.specs.Rules.{refusal, refuse_if, or_else, Verdict, Refusal}
 use Rattle.verdict.specs.Writer.{over, written_of, output_of}
 use Rattle.verdict.specs.declared.Rule.TheVariants as why
 

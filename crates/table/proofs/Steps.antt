@@ -25,8 +25,7 @@ use Rattle.table.specs.Code.Search.{range_rule, bad_after}
 use Rattle.table.specs.File.{rest, number, numbers}
 use Rattle.table.specs.Number.{size, value, number_rules}
 use Rattle.table.proofs.Judging.{below, judge_more, judge_at}
-use Rattle.verdict.specs.declared.Refusal.{Refusal}
-use Rattle.verdict.specs.Rules.{refusal, refuse_if, or_else, judge, Verdict}
+use Rattle.verdict.specs.Rules.{refusal, refuse_if, or_else, judge, Verdict, Refusal}
 use Rattle.verdict.proofs.Rules.{judge_last}
 
 -- the rules on mask k

@@ -29,9 +29,8 @@ use Rattle.table.specs.Code.Search.{bad_of, lowest_bad, behind_elements}
 use Rattle.table.specs.Record.{max_elements, max_ranks, element, persistent_at, bad_count, bad_ranks, bad_element, bad_persistent, bad_place, disjoint_from, missed_by, missed_at, apart_refusal, missed_refusal, persistent_place, count_rule, places_rule, ranks_rule, persistent_rule, meet_rule, persist_rule, record_verdict}
 use Rattle.table.specs.Mask.{meets, unpartnered, persistent_for}
 use Rattle.table.proofs.Judging.{four_accepted}
-use Rattle.verdict.specs.declared.Refusal.{Refusal}
 use Rattle.verdict.specs.Numbers.{Says, accepts, by, OneOf}
-use Rattle.verdict.specs.Rules.{witnessed, refusal, or_else, judge}
+use Rattle.verdict.specs.Rules.{witnessed, refusal, or_else, judge, Refusal}
 use Rattle.verdict.proofs.Numbers.{says_if, says_by, says_at, says_or}
 use Rattle.verdict.proofs.Rules.{refuse_if_accepted, refuse_at_accepted, or_else_accepted, or_else_left, or_else_right}
 

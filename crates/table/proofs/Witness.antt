@@ -23,10 +23,9 @@ use Rattle.table.specs.Witness.{element_no, persistent_no, Apart, Missed, zeros,
 use Rattle.table.proofs.Judging.{says_each}
 use Rattle.table.proofs.Places.{missed_is}
 use Rattle.table.proofs.Verdicts.{lowest_apart, lowest_missed, meets_each, persistent_each, record_says}
-use Rattle.verdict.specs.declared.Refusal.{Refusal}
 use Rattle.verdict.specs.declared.Rule.{Rule}
 use Rattle.verdict.specs.Numbers.{Says, accepts, among}
-use Rattle.verdict.specs.Rules.{witnessed, refusal, refuse_if, judge, Verdict, number_of, number}
+use Rattle.verdict.specs.Rules.{witnessed, refusal, refuse_if, judge, Verdict, number_of, number, Refusal}
 use Rattle.verdict.proofs.Numbers.{says_if, says_by, says_or, says_append}
 
 -- places count from 1

@@ -28,9 +28,8 @@ use Rattle.seq.specs.Tab.{tab, up_to}
 use Rattle.table.specs.declared.Table.{Table}
 use Rattle.table.specs.Number.{size, value, number_rules, number_bytes}
 use Rattle.table.specs.Record.{max_elements, max_ranks, masks, persistents, bad_ranks, bad_element, bad_persistent, count_rule, meet_rule, persist_rule, record_verdict, zero_table}
-use Rattle.verdict.specs.declared.Refusal.{Refusal}
 use Rattle.verdict.specs.declared.Rule.{Rule}
-use Rattle.verdict.specs.Rules.{refuse_if, or_else, judge, Verdict, result_of}
+use Rattle.verdict.specs.Rules.{refuse_if, or_else, judge, Verdict, result_of, Refusal}
 use Rattle.verdict.specs.Writer.{written_of, output_of, Written}
 use Rattle.verdict.specs.declared.Rule.TheVariants as why
 

@@ -26,8 +26,7 @@ use Rattle.seq.specs.Bits.{bit}
 use Rattle.seq.specs.Tab.{first}
 use Rattle.table.specs.declared.Table.{Table}
 use Rattle.table.specs.Mask.{centre, valid_mask, meets, unpartnered, persistent_for}
-use Rattle.verdict.specs.declared.Refusal.{Refusal}
-use Rattle.verdict.specs.Rules.{witnessed, refuse_if, refuse_by, refuse_at, judge, Verdict}
+use Rattle.verdict.specs.Rules.{witnessed, refuse_if, refuse_by, refuse_at, judge, Verdict, Refusal}
 use Rattle.verdict.specs.declared.Rule.TheVariants as why
 
 abbrev pub max_elements : ℕ

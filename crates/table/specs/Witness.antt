@@ -14,10 +14,9 @@ use Rattle.table.specs.declared.Table.{Table}
 use Rattle.table.specs.File.{table_of, file_verdict}
 use Rattle.table.specs.Mask.{position_count, meets, partner, persistent_for}
 use Rattle.table.specs.Record.{element, persistent_at, record_verdict}
-use Rattle.verdict.specs.declared.Refusal.{Refusal}
 use Rattle.verdict.specs.declared.Rule.{Rule}
 use Rattle.verdict.specs.Numbers.{Says, among}
-use Rattle.verdict.specs.Rules.{witnessed, number, refusal, number_of}
+use Rattle.verdict.specs.Rules.{witnessed, number, refusal, number_of, Refusal}
 use Rattle.verdict.specs.declared.Rule.TheVariants as why
 
 abbrev pub element_no : Table → ℕ → ℕ

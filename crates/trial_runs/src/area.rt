@@ -1,6 +1,7 @@
-// The areas and outputs that the calls of a job are lent: fixed memory, compared whole, so that a byte behind the image counts.
+// Fixed memory: the areas and outputs that the calls of a job are lent, compared whole, so that a byte behind the image counts. Images and files
+// stand at the front of an area too.
 
-// More bytes than any image of a trial has.
+// More bytes than any image or file of a trial has.
 pub(crate) const AREA: usize = 1152;
 
 pub(crate) type Area = [u8; AREA];

@@ -1,18 +1,46 @@
 // Second implementation: the image file of some pixels (01, The sheet).
+use crate::area::{AREA, Area, copy_to_front};
 use crate::images::Image;
-use std::alloc::{AllocError, Global};
+use std::fmt::InlineText;
 
-// Each row begins with a byte of its own.
-pub(crate) fn written(alloc: Global, image: &Image) -> Result<Vec<u8>, AllocError> {
-    let size = image.size;
-    let head = format!(in alloc; "P4\n{} {}\n", size.width, size.height)?;
-    let mut file = head.into_bytes();
-    for row in image.pixels.chunks(usize::from(size.width).max(1)) {
-        for pixels in row.chunks(8) {
-            file.push(packed(pixels))?;
+// The bytes of a file, at the front of an area.
+#[derive(Clone, Copy)]
+pub(crate) struct File {
+    area: Area,
+    length: usize,
+}
+
+impl File {
+    fn new(head: &[u8]) -> File {
+        let mut area = [0; AREA];
+        let length = copy_to_front(&mut area, head);
+        File { area, length }
+    }
+
+    // One byte more, as far as the area goes.
+    fn push(&mut self, byte: u8) {
+        if self.length < AREA {
+            self.area[self.length] = byte;
+            self.length += 1;
         }
     }
-    Ok(file)
+
+    pub(crate) fn as_slice(&self) -> &[u8] {
+        &self.area[..self.length.min(AREA)]
+    }
+}
+
+// Each row begins with a byte of its own.
+pub(crate) fn written(image: &Image) -> File {
+    let size = image.size;
+    let head = InlineText::<20>::of(format_args!("P4\n{} {}\n", size.width, size.height));
+    let mut file = File::new(head.as_str().as_bytes());
+    for row in image.pixels().chunks(usize::from(size.width).max(1)) {
+        for pixels in row.chunks(8) {
+            file.push(packed(pixels));
+        }
+    }
+    file
 }
 
 // The leftmost of up to eight pixels is the highest bit.

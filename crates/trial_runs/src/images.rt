@@ -1,50 +1,49 @@
 // Images; generated ones: blocks of either colour, some as large as the image, with some pixels turned; and the majority of three images.
+use crate::area::{AREA, Area};
 use crate::generator;
 use crate::grid::{Place, Size};
-use std::alloc::{AllocError, Global};
 
-// An image of as many pixels as its size has.
-#[derive(Drop)]
+// An image of as many pixels as its size has, at the front of an area that has room for them.
+#[derive(Clone, Copy)]
 pub(crate) struct Image {
     pub size: Size,
-    pub pixels: Vec<u8>,
+    area: Area,
 }
 
 impl Image {
     // Each pixel has the value that a function gives for its place.
-    pub(crate) fn new<F: FnMut(Place) -> u8>(
-        alloc: Global,
-        size: Size,
-        value: F,
-    ) -> Result<Image, AllocError>
+    pub(crate) fn new<F: FnMut(Place) -> u8>(size: Size, value: F) -> Image
         requires { (state : F) (place : _) → F.pre state place }
     {
-        let pixels = size.places().map(value).collect(alloc)?;
-        Ok(Image { size, pixels })
+        let mut area = [0; AREA];
+        for (pixel, value) in area.iter_mut().zip(size.places().map(value)) {
+            *pixel = value;
+        }
+        Image { size, area }
+    }
+
+    pub(crate) fn pixels(&self) -> &[u8] {
+        &self.area[..self.size.pixels().min(AREA)]
     }
 
     // The value of a pixel, outside the image none.
     pub(crate) fn at(&self, place: Place) -> Option<u8> {
-        self.pixels.get(self.size.index(place)?).copied()
+        self.area.get(self.size.index(place)?).copied()
     }
 }
 
 // Three images of one size.
-pub(crate) fn three(alloc: Global, seed: u32, size: Size) -> Result<[Image; 3], AllocError> {
-    Ok([
-        drawn(alloc, seed, size)?,
-        drawn(alloc, generator::draw(seed, 21), size)?,
-        drawn(alloc, generator::draw(seed, 22), size)?,
-    ])
+pub(crate) fn three(seed: u32, size: Size) -> [Image; 3] {
+    [
+        drawn(seed, size),
+        drawn(generator::draw(seed, 21), size),
+        drawn(generator::draw(seed, 22), size),
+    ]
 }
 
 // Second implementation (02, T-12): a pixel is black when at least two have it black.
-pub(crate) fn majority(
-    alloc: Global,
-    size: Size,
-    images: &[Image; 3],
-) -> Result<Image, AllocError> {
-    Image::new(alloc, size, |place| u8::from(2 <= blacks(images, place)))
+pub(crate) fn majority(size: Size, images: &[Image; 3]) -> Image {
+    Image::new(size, |place| u8::from(2 <= blacks(images, place)))
 }
 
 fn blacks(images: &[Image; 3], place: Place) -> usize {
@@ -52,8 +51,8 @@ fn blacks(images: &[Image; 3], place: Place) -> usize {
     black.count()
 }
 
-pub(crate) fn drawn(alloc: Global, seed: u32, size: Size) -> Result<Image, AllocError> {
-    Image::new(alloc, size, |place| pixel(seed, place))
+pub(crate) fn drawn(seed: u32, size: Size) -> Image {
+    Image::new(size, |place| pixel(seed, place))
 }
 
 fn pixel(seed: u32, place: Place) -> u8 {

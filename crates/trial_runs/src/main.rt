@@ -22,14 +22,13 @@ use report::Tally;
 use std::io;
 
 fn main(rt: HostRuntime) -> io::Result<()> {
-    let alloc = rt.alloc();
     trials::width(&rt, 256)?;
     trials::width(&rt, 257)?;
-    let mut tally = Tally::new(alloc);
+    let mut tally = Tally::new();
     trials::median(&rt, &mut tally)?;
-    trials::generated(alloc, &mut tally, 1, 8, 8)?;
-    trials::generated(alloc, &mut tally, 2, 33, 33)?;
-    trials::generated(alloc, &mut tally, 3, 256, 4)?;
-    trials::generated(alloc, &mut tally, 4, 4, 256)?;
+    trials::generated(&mut tally, 1, 8, 8);
+    trials::generated(&mut tally, 2, 33, 33);
+    trials::generated(&mut tally, 3, 256, 4);
+    trials::generated(&mut tally, 4, 4, 256);
     println!(rt; "{tally}")
 }

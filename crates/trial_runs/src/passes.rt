@@ -1,18 +1,18 @@
 // Second implementation: one pass, written from its definition (01, One pass).
 use crate::grid::{Offset, Place};
 use crate::images::Image;
-use crate::shapes::Shapes;
-use std::alloc::{AllocError, Global};
+use crate::shapes::{CENTRE, Positions};
+use table::Table;
 
 // The next image. Every pixel is judged on the image before.
-pub(crate) fn next(alloc: Global, shapes: &Shapes, image: &Image) -> Result<Image, AllocError> {
-    let judge = Judge { shapes, image };
-    Image::new(alloc, image.size, |place| judge.after(place))
+pub(crate) fn next(table: &Table, image: &Image) -> Image {
+    let judge = Judge { table, image };
+    Image::new(image.size, |place| judge.after(place))
 }
 
 #[derive(Clone, Copy)]
 struct Judge<'a> {
-    shapes: &'a Shapes,
+    table: &'a Table,
     image: &'a Image,
 }
 
@@ -25,30 +25,31 @@ impl Judge<'_> {
 
     // Some element has all its offsets, taken at the pixel, covered for the other value.
     fn changes(&self, place: Place, other: u8) -> bool {
-        self.shapes
-            .elements
-            .iter()
-            .any(|element| self.fits(element.as_slice(), place, other))
+        let mut elements = self.table.elements.iter().take(self.table.count);
+        elements.any(|element| self.fits(*element, place, other))
     }
 
-    fn fits(&self, element: &[Offset], place: Place, value: u8) -> bool {
+    fn fits(&self, element: u32, place: Place, value: u8) -> bool {
         let size = self.image.size;
-        element.iter().all(|offset| self.is_covered(size.nearest(place, *offset), value))
+        Positions::of(element).all(|to| {
+            self.is_covered(size.nearest(place, Offset::between(CENTRE, to)), value)
+        })
     }
 
-    // Some translate of some persistent element contains the pixel and has the value everywhere.
+    // Some translate of some persistent element (01 and 02: keeper) contains the pixel and has the value everywhere.
     fn is_covered(&self, place: Place, value: u8) -> bool {
+        let mut persistents = self.table.persistents.iter().take(self.table.ranks);
         self.image.at(place) == Some(value)
-            && self.shapes.translates.iter().any(|translate| self.is_solid(
-                translate.as_slice(),
-                place,
-                value,
-            ))
+            && persistents.any(|mask| {
+                Positions::of(*mask).any(|from| self.is_solid(*mask, from, place, value))
+            })
     }
 
-    // The translate lies wholly inside and has the value everywhere.
-    fn is_solid(&self, translate: &[Offset], place: Place, value: u8) -> bool {
-        translate.iter().all(|offset| self.value_at(place.moved(*offset)) == Some(value))
+    // The translate with this position on the pixel lies wholly inside and has the value everywhere.
+    fn is_solid(&self, mask: u32, from: u8, place: Place, value: u8) -> bool {
+        Positions::of(mask).all(|to| {
+            self.value_at(place.moved(Offset::between(from, to))) == Some(value)
+        })
     }
 
     fn value_at(&self, place: Option<Place>) -> Option<u8> {

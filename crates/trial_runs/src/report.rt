@@ -1,28 +1,29 @@
 // What the trials found, counted and printed.
 use history::Job;
-use std::alloc::{AllocError, Global};
 use std::fmt;
 
 const PRINTED: usize = 20;
 
-// `wrong` has the seed of the job of each disagreement.
+// `wrong` has at its front the seeds of the jobs of the first disagreements.
 #[derive(Drop)]
 pub(crate) struct Tally {
     pairs: usize,
     calls: usize,
     passes: usize,
     pixels: usize,
-    wrong: Vec<u32>,
+    disagreements: usize,
+    wrong: [u32; PRINTED],
 }
 
 impl Tally {
-    pub(crate) fn new(alloc: Global) -> Tally {
+    pub(crate) fn new() -> Tally {
         Tally {
             pairs: 0,
             calls: 0,
             passes: 0,
             pixels: 0,
-            wrong: Vec::new(alloc),
+            disagreements: 0,
+            wrong: [0; PRINTED],
         }
     }
 
@@ -39,22 +40,25 @@ impl Tally {
         self.pixels = self.pixels.saturating_add(pixels);
     }
 
-    pub(crate) fn disagree(&mut self, seed: u32) -> Result<(), AllocError> {
-        self.wrong.push(seed)?;
-        Ok(())
+    // One disagreement more, in the job of this seed.
+    pub(crate) fn disagree(&mut self, seed: u32) {
+        if self.disagreements < PRINTED {
+            self.wrong[self.disagreements] = seed;
+        }
+        self.disagreements = self.disagreements.saturating_add(1);
     }
 }
 
 // Of the first few disagreements the job's seed, and the counts.
 impl fmt::Display for Tally {
     fn fmt<W: fmt::Write>(&self, f: &mut fmt::Formatter<W>) -> fmt::Result {
-        for seed in self.wrong.iter().take(PRINTED) {
+        for seed in self.wrong.iter().take(self.disagreements) {
             writeln!(f, "disagreement in the job of seed {seed}")?;
         }
         writeln!(f, "pairs of table and image {}", self.pairs)?;
         writeln!(f, "calls compared {}", self.calls)?;
         writeln!(f, "passes that changed pixels {}", self.passes)?;
         writeln!(f, "pixels changed in them {}", self.pixels)?;
-        write!(f, "disagreements {}", self.wrong.len())
+        write!(f, "disagreements {}", self.disagreements)
     }
 }

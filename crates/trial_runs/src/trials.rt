@@ -7,17 +7,15 @@ use crate::jobs::Trial;
 use crate::library::Library;
 use crate::report::Tally;
 use crate::{files, generator, images, tables};
-use std::alloc::{AllocError, Global};
 use std::io;
 use table::Table;
 
 const PAIRS: u16 = 2048;
 
 // A white image of this width and of one row: the number that load refuses it by, or 0.
-pub(crate) fn width<R: Print + AllocGlobal>(rt: &R, width: u16) -> io::Result<()> {
-    let alloc = rt.alloc();
-    let white = Image::new(alloc, Size { width, height: 1 }, |_| 0)?;
-    let loaded = loaded(alloc, tables::ring(alloc)?, &white)?;
+pub(crate) fn width(rt: &impl Print, width: u16) -> io::Result<()> {
+    let white = Image::new(Size { width, height: 1 }, |_| 0);
+    let loaded = loaded(tables::ring(), &white);
     let number = match loaded.side.answer {
         Ok(_) => 0,
         Err(refusal) => refusal.rule.number(),
@@ -26,22 +24,21 @@ pub(crate) fn width<R: Print + AllocGlobal>(rt: &R, width: u16) -> io::Result<()
 }
 
 // Median's 56 elements on 24 × 24, black only at columns 11 to 12, rows 9 to 14.
-pub(crate) fn median<R: Print + AllocGlobal>(rt: &R, tally: &mut Tally) -> io::Result<()> {
-    let alloc = rt.alloc();
+pub(crate) fn median(rt: &impl Print, tally: &mut Tally) -> io::Result<()> {
     let size = Size {
         width: 24,
         height: 24,
     };
-    let bar = Image::new(alloc, size, |place| u8::from(is_in_bar(place)))?;
-    let table = tables::median(alloc)?;
-    let mut stable = loaded(alloc, table, &bar)?;
+    let bar = Image::new(size, |place| u8::from(is_in_bar(place)));
+    let table = tables::median();
+    let mut stable = loaded(table, &bar);
     stable.run();
     let job = stable.side.job;
     println!(rt;
         "median's {} elements on 24 x 24: {} passes, {} added, {} removed",
         job.table.count, job.passes, job.added, job.removed
     )?;
-    Trial::new(alloc, 0, table, bar)?.run(tally)?;
+    Trial::new(0, table, bar).run(tally);
     Ok(())
 }
 
@@ -50,39 +47,33 @@ fn is_in_bar(place: Place) -> bool {
 }
 
 // What the library leaves of a load.
-fn loaded(alloc: Global, table: Table, image: &Image) -> Result<Library, AllocError> {
-    let file = files::written(alloc, image)?;
+fn loaded(table: Table, image: &Image) -> Library {
+    let file = files::written(image);
     let mut library = Library::new();
     library.load(table, file.as_slice());
-    Ok(library)
+    library
 }
 
-fn pair(alloc: Global, tally: &mut Tally, seed: u32, size: Size) -> Result<(), AllocError> {
-    let table = tables::generated(alloc, seed)?;
-    Trial::new(alloc, seed, table, images::drawn(alloc, seed, size)?)?.run(tally)
+fn pair(tally: &mut Tally, seed: u32, size: Size) {
+    let table = tables::generated(seed);
+    Trial::new(seed, table, images::drawn(seed, size)).run(tally);
 }
 
 // The image is that of three files.
-fn of_three(alloc: Global, tally: &mut Tally, seed: u32, size: Size) -> Result<(), AllocError> {
-    let table = tables::generated(alloc, seed)?;
-    let drawn = images::three(alloc, seed, size)?;
-    let image = images::majority(alloc, size, &drawn)?;
+fn of_three(tally: &mut Tally, seed: u32, size: Size) {
+    let table = tables::generated(seed);
+    let drawn = images::three(seed, size);
+    let image = images::majority(size, &drawn);
     let [one, two, three] = drawn;
-    let one = files::written(alloc, &one)?;
-    let two = files::written(alloc, &two)?;
-    let three = files::written(alloc, &three)?;
+    let one = files::written(&one);
+    let two = files::written(&two);
+    let three = files::written(&three);
     let files = [one.as_slice(), two.as_slice(), three.as_slice()];
-    Trial::new(alloc, seed, table, image)?.run_three(tally, files)
+    Trial::new(seed, table, image).run_three(tally, files);
 }
 
 // Pairs of every width up to one limit with every height up to another, again and again; in every fifth the image is that of three files.
-pub(crate) fn generated(
-    alloc: Global,
-    tally: &mut Tally,
-    seed: u32,
-    wide: u16,
-    high: u16,
-) -> Result<(), AllocError>
+pub(crate) fn generated(tally: &mut Tally, seed: u32, wide: u16, high: u16)
     requires { (0 < wide) × (0 < high) }
 {
     for k in 0..PAIRS {
@@ -92,10 +83,9 @@ pub(crate) fn generated(
         };
         let drawn = generator::draw(seed, u32::from(k));
         if k % 5 == 4 {
-            of_three(alloc, tally, drawn, size)?;
+            of_three(tally, drawn, size);
         } else {
-            pair(alloc, tally, drawn, size)?;
+            pair(tally, drawn, size);
         }
     }
-    Ok(())
 }

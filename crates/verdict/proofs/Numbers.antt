@@ -17,10 +17,9 @@ use borrow.Author.Tests.{eqb-true}
 use lib.Dec.{eqb}
 use Rattle.seq.specs.Lists.{all}
 use Rattle.seq.proofs.Lists.{clash, any_elim, all_elim}
-use Rattle.verdict.specs.declared.Refusal.{Refusal}
 use Rattle.verdict.specs.declared.Rule.{Rule}
 use Rattle.verdict.specs.Numbers.{Says, accepts, refuses, among, By, by, OneOf}
-use Rattle.verdict.specs.Rules.{number_of, refusal, refuse_if, refuse_by, refuse_at, or_else, judge, Verdict}
+use Rattle.verdict.specs.Rules.{number_of, refusal, refuse_if, refuse_by, refuse_at, or_else, judge, Verdict, Refusal}
 use Rattle.verdict.proofs.Rules.{refused_accepted, judge_append}
 
 module _ {P : Refusal → Type 0} where

@@ -16,9 +16,8 @@ use native.Mathlib.Numerals.{add-one}
 use native.Mathlib.Omega.{arith}
 use Rattle.seq.specs.Tab.{first}
 use Rattle.seq.proofs.Search.{Passed, passed_found, passed_all}
-use Rattle.verdict.specs.declared.Refusal.{Refusal}
 use Rattle.verdict.specs.declared.Rule.{Rule}
-use Rattle.verdict.specs.Rules.{refusal, refuse_if, refuse_by, refuse_at, or_else, judge, Verdict}
+use Rattle.verdict.specs.Rules.{refusal, refuse_if, refuse_by, refuse_at, or_else, judge, Verdict, Refusal}
 
 pub judge_append : (vs ws : List Verdict) → judge (vs ++ ws) ≡ or_else (judge vs) (judge ws)
 judge_append [] ws = refl

@@ -6,8 +6,7 @@
 --     written_length a     the length of the file that a writer made
 -- Assumes nothing.
 use Rattle.std.specs.Prelude.{ℕ, Ok, Err, Result}
-use Rattle.verdict.specs.declared.Refusal.{Refusal}
-use Rattle.verdict.specs.Rules.{number_of, Verdict}
+use Rattle.verdict.specs.Rules.{number_of, Verdict, Refusal}
 use Rattle.verdict.specs.Writer.{Written}
 
 abbrev pub verdict_of : {A : Type 0} → Result A Refusal → Verdict

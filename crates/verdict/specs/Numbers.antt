@@ -5,8 +5,7 @@
 -- Assumes nothing.
 use Rattle.std.specs.Prelude.{Bool, true, List, ◌≡◌, ℕ, eqb, Ok, Err}
 use Rattle.seq.specs.Lists.{any}
-use Rattle.verdict.specs.declared.Refusal.{Refusal}
-use Rattle.verdict.specs.Rules.{number_of, Verdict}
+use Rattle.verdict.specs.Rules.{number_of, Verdict, Refusal}
 
 pub data Says (P : Refusal → Type 0) : Verdict → Type 0 where
   accepts : Says P (Ok tt)

@@ -1,4 +1,5 @@
 -- Check lists: rules in 01's order, of which the first that fails speaks.
+--     Refusal                a rule and its place, as the library refuses; a caller's own may name something else (`witnessed` and `refusal` at its type)
 --     Verdict                nothing is refused, or the refusal
 --     number x               01's number of a rule; number_of r: of the rule that a refusal names
 --     witnessed x p a b      the refusal by the rule x at place p, and with it the witness a and the position b (02, T-07)
@@ -12,9 +13,12 @@
 --     result_of v a           a where the verdict refuses nothing, else its refusal
 -- Assumes nothing.
 use Rattle.std.specs.Prelude.{Bool, true, false, List, [], ◌∷◌, ℕ, Option, None, Some, Ok, Err, Result}
-use Rattle.verdict.specs.declared.Refusal.{Refusal}
+use Rattle.verdict.specs.declared.Refusal as made
 use Rattle.verdict.specs.declared.Rule.{Rule}
 use Rattle.verdict.specs.declared.Rule.TheVariants as why
+
+abbrev pub Refusal : Type 0
+Refusal = made.Refusal Rule
 
 abbrev pub Verdict : Type 0
 Verdict = Result Unit Refusal
@@ -46,10 +50,10 @@ number why.SizesDiffer = 26
 abbrev pub number_of : Refusal → ℕ
 number_of r = number r.rule
 
-abbrev pub witnessed : Rule → ℕ → ℕ → ℕ → Refusal
+abbrev pub witnessed : {R : Type 0} → R → ℕ → ℕ → ℕ → made.Refusal R
 witnessed x p a b = record { rule = x; place = p; witness = a; position = b }
 
-abbrev pub refusal : Rule → ℕ → Refusal
+abbrev pub refusal : {R : Type 0} → R → ℕ → made.Refusal R
 refusal x p = witnessed x p 0 0
 
 abbrev pub refuse_if : Bool → Rule → ℕ → Verdict

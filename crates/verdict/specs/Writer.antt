@@ -5,8 +5,7 @@
 --     output_of v file out     the memory afterwards: a refusal alters nothing
 -- Assumes nothing.
 use Rattle.std.specs.Prelude.{List, ◌++◌, ℕ, length, drop, Ok, Err, Result}
-use Rattle.verdict.specs.declared.Refusal.{Refusal}
-use Rattle.verdict.specs.Rules.{Verdict, result_of}
+use Rattle.verdict.specs.Rules.{Verdict, result_of, Refusal}
 
 abbrev pub Written : Type 0
 Written = Result ℕ Refusal

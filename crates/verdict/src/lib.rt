@@ -42,9 +42,10 @@ impl Rule {
 
 // A refusal: rule and place. Of 5 and 7 also where exactly the table is bad: the witness of 5 is an earlier element, that of 7 the rank of a
 // persistent element, and the position is one of its positions. In every other refusal both are zero: C's answer has all four, and table/Witness speaks of them.
+// The calls of this library name a rule; a caller's own refusal may name what it likes, such as a number alone.
 #[derive(Clone, Copy, PartialEq, Eq)]
-pub struct Refusal {
-    pub rule: Rule,
+pub struct Refusal<R = Rule> {
+    pub rule: R,
     pub place: usize,
     pub witness: usize,
     pub position: usize,
@@ -56,13 +57,13 @@ pub type Verdict = Result<(), Refusal>;
 // A writer's answer: the file's length, or the refusal.
 pub type Written = Result<usize, Refusal>;
 
-pub fn refusal_of(rule: Rule, place: usize) -> Refusal
+pub fn refusal_of<R>(rule: R, place: usize) -> Refusal<R>
     ensures { result ≡ Rules.refusal rule place }
 {
     witnessed(rule, place, 0, 0)
 }
 
-fn witnessed(rule: Rule, place: usize, witness: usize, position: usize) -> Refusal
+fn witnessed<R>(rule: R, place: usize, witness: usize, position: usize) -> Refusal<R>
     ensures { result ≡ Rules.witnessed rule place witness position }
 {
     Refusal {
@@ -74,19 +75,41 @@ fn witnessed(rule: Rule, place: usize, witness: usize, position: usize) -> Refus
 }
 
 // The refusal as the answer of any check, reader or writer.
-pub fn refused<T>(rule: Rule, place: usize) -> Result<T, Refusal>
+pub fn refused<T, R>(rule: R, place: usize) -> Result<T, Refusal<R>>
     ensures { result ≡ Err (Rules.refusal rule place) }
 {
     Err(refusal_of(rule, place))
 }
 
-pub fn refused_for<T>(
-    rule: Rule,
+pub fn refused_for<T, R>(
+    rule: R,
     place: usize,
     witness: usize,
     position: usize,
-) -> Result<T, Refusal>
+) -> Result<T, Refusal<R>>
     ensures { result ≡ Err (Rules.witnessed rule place witness position) }
 {
     Err(witnessed(rule, place, witness, position))
+}
+
+#[cfg(test)]
+mod tests {
+    use super::*;
+
+    // Whatever a caller has for a name: a number that is no rule's, and a rule.
+    #[test]
+    fn names_what_a_caller_names(rt: HostRuntime) {
+        let other = refusal_of(27u32, 3);
+        assert_eq!(rt;
+            (other.rule, other.place, other.witness, other.position),
+            (27, 3, 0, 0)
+        );
+        let none: Verdict = refused(Rule::Parts, 2);
+        assert_eq!(rt; none.map_err(|refusal| refusal.rule.number()), Err(23));
+        let with: Result<(), Refusal<u32>> = refused_for(u32::MAX, 4, 5, 6);
+        assert_eq!(rt;
+            with.map_err(|refusal| (refusal.rule, refusal.witness, refusal.position)),
+            Err((u32::MAX, 5, 6))
+        );
+    }
 }

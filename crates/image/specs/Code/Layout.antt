@@ -12,8 +12,7 @@ use Rattle.image.specs.declared.number.Number.{Number}
 use Rattle.image.specs.File.{file_verdict}
 use Rattle.image.specs.Header.{digits, decimal_value, strict, after, width_part, height_part, header_form, width_of, height_of}
 use Rattle.image.specs.Size.{extent}
-use Rattle.verdict.specs.declared.Refusal.{Refusal}
-use Rattle.verdict.specs.Rules.{result_of}
+use Rattle.verdict.specs.Rules.{result_of, Refusal}
 
 abbrev pub number_if : Bool → ℕ → ℕ → Option Number
 number_if true value next = Some (record { value = value; next = next })

@@ -12,9 +12,8 @@ use Rattle.image.specs.declared.strip.Strip.{Strip}
 use Rattle.image.specs.Strip.{no_counts}
 use Rattle.job.specs.declared.Reading.{Reading}
 use Rattle.table.specs.declared.Table.{Table}
-use Rattle.verdict.specs.declared.Refusal.{Refusal}
 use Rattle.verdict.specs.Answers.{verdict_of}
-use Rattle.verdict.specs.Rules.{Verdict, judge}
+use Rattle.verdict.specs.Rules.{Verdict, judge, Refusal}
 
 abbrev pub entered : Job → Table → Strip → ImageRead → Job
 entered j t p (Ok s) =

@@ -16,8 +16,7 @@ use Rattle.table.specs.declared.reading.Ranks.{Ranks}
 use Rattle.table.specs.Code.Search.{range_rule, bad_after}
 use Rattle.table.specs.File.{rest, number, several, body, element_count, element_bytes, rank_count, persistent_bytes, first_place, numbers, masks_rules}
 use Rattle.table.specs.Record.{max_elements, max_ranks}
-use Rattle.verdict.specs.declared.Refusal.{Refusal}
-use Rattle.verdict.specs.Rules.{judge, Verdict}
+use Rattle.verdict.specs.Rules.{judge, Verdict, Refusal}
 
 abbrev pub Judged : {A : Type 0} → Result A Refusal → List Verdict → (A → Type 0) → Type 0
 Judged r rules P = MatchResult r (λ a. (judge rules ≡ Ok tt) × P a) (λ e. judge rules ≡ Err e)

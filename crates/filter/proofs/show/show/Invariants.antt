@@ -4,4 +4,4 @@ use Rattle.filter.proofs.ShowLaws.{Showing}
 use Rattle.filter.proofs.show.show.Given as goal
 
 abbrev pub invariant-loop-row : goal.invariant-loop-row
-invariant-loop-row l = Showing l.width l.height l.marks l.plane l.initial.out l.out l.row
+invariant-loop-row l = Showing l.width l.height l.marks l.plane l.initial.out l.out l.row l.from l.to
