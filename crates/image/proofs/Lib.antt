@@ -12,6 +12,7 @@ pub mod LayoutOf
 pub mod Facts
 pub mod ReadOf
 pub mod Unpacked
+pub mod Pieces
 pub mod Values
 pub mod PixelsOf
 pub mod ThreeFiles

@@ -1,6 +1,6 @@
 -- Pixels that are packed into bytes, a byte bit by bit and a row byte by byte.
 --     packed_bits          the byte of eight values is their number
---     packing_more, packing_all, packing_small    a loop over a byte's bits, of which b is the number so far: a value more, its end, and a bound
+--     packing_more, packing_small, packing_all    a loop over a byte's bits, of which b has the highest k: a value more, a bound, and its end, past which all values are 0
 --     pixel_small, packed_ext    a pixel is at most 1; bytes of equal values are equal
 --     pack_more, pack_rest, pack_all    a loop over a row's bytes: a whole byte, the byte with the rest of the row, its end
 -- Assumes nothing.
@@ -8,18 +8,18 @@ use mathlib.Core.Bool.{Bool, true, false, cond}
 use mathlib.Core.List.{List}
 use mathlib.Core.Logic.{◌⊎◌, inl, inr, ⊎_elim}
 use mathlib.Core.Path.{◌≡◌, refl, sym, ap, ◌∙◌}
-use Prim.Native.Nat.{ℕ, ◌+◌, ◌-◌, ◌*◌, ◌/◌, ◌≤◌, ◌<◌}
-use native.Mathlib.Nat.{lt_of_lt_of_le}
+use Prim.Native.Nat.{ℕ, suc, ◌+◌, ◌-◌, ◌*◌, ◌/◌, ◌%◌, ◌^◌, ◌≤◌, ◌<◌}
+use native.Mathlib.Nat.{mod-eq_of_lt, mul-add, mul-le-mul_right, mul-lt-mul_of_pos_right, pow-suc}
 use native.Mathlib.Numerals.{add-one}
 use native.Mathlib.Omega.{arith}
 use lib.Dec.{ltb, lit<}
 use lib.ListN.{length, get_or, take, drop, set, length-take, length-drop, get_or-eq_default}
-use lib.Pow.{pow_mono}
+use lib.Pow.{pow_pos, pow_mono, pow-add}
 use lib.Seq.{get_or-take, get_or-drop}
 use Rattle.image.specs.Code.Rows.{Binary, packed_row}
 use Rattle.image.specs.File.{in_row, packed}
 use Rattle.image.specs.Size.{row_bytes}
-use Rattle.seq.proofs.HighFirst.{bits_value, bits_lt}
+use Rattle.seq.proofs.HighFirst.{bits_value, bits_lt, bits_zeros}
 use Rattle.seq.proofs.Tab.{fill_more, fill_whole}
 use Rattle.seq.proofs.Tests.{lt_or_le}
 use Rattle.seq.specs.Tab.{tab, Filled}
@@ -29,15 +29,27 @@ pub packed_bits : (v : ℕ → ℕ) → bits_value v 8 ≡ packed v
 unfolding bits_value
 packed_bits v = omega arith
 
-pub packing_more : (v : ℕ → ℕ) {b k a : ℕ} → b ≡ bits_value v k → a ≡ v k → 2 * b + a ≡ bits_value v (k + 1)
-unfolding bits_value
-packing_more v s e = rw add-one (omega (arith, s, e))
+module _ (v : ℕ → ℕ) (small : (k : ℕ) → v k ≤ 1) {b k : ℕ} (s : b ≡ bits_value v k * 2 ^ (8 - k)) where
+  pub packing_more : {a : ℕ} → a ≡ v k → k < 8 → b + a * 2 ^ (7 - k) % 256 ≡ bits_value v (k + 1) * 2 ^ (8 - (k + 1))
+  unfolding bits_value
+  packing_more {a} e l =
+      let here : 8 - k ≡ suc (7 - k) = omega arith in
+      let next : 8 - (k + 1) ≡ 7 - k = omega arith in
+      let place : 2 ^ (7 - k) ≤ 128 = pow_mono {i = 7 - k} {j = 7} (omega arith) in
+      let bit : v k * 2 ^ (7 - k) ≤ 1 * 2 ^ (7 - k) = mul-le-mul_right (2 ^ (7 - k)) (small k) in
+      rw (next, add-one, e, mod-eq_of_lt {n = v k * 2 ^ (7 - k)} {m = 256} (omega (arith, place, bit)))
+      (omega (arith, rw (here, pow-suc) at s, mul-add (2 ^ (7 - k)) (2 * bits_value v k) (v k)))
 
-pub packing_all : (v : ℕ → ℕ) {b k : ℕ} → b ≡ bits_value v k → k ≡ 8 → b ≡ packed v
-packing_all v s e = s ∙ ap (bits_value v) e ∙ packed_bits v
+  pub packing_small : k ≤ 8 → b < 256
+  packing_small l =
+      let eight : 8 ≡ k + (8 - k) = omega arith in
+      let whole : 256 ≡ 2 ^ k * 2 ^ (8 - k) = ap (λ (n : ℕ). 2 ^ n) eight ∙ pow-add 2 k (8 - k) in
+      omega (arith, s, whole, mul-lt-mul_of_pos_right (bits_lt v small k) (pow_pos (8 - k)))
 
-pub packing_small : (v : ℕ → ℕ) {b k : ℕ} → b ≡ bits_value v k → k < 8 → ((k : ℕ) → v k ≤ 1) → b < 128
-packing_small v {b} {k} s l h = rw s (lt_of_lt_of_le (bits_lt v h k) (pow_mono {j = 7} (omega arith)))
+  pub packing_all : k ≤ 8 → ((j : ℕ) → k ≤ j → v j ≡ 0) → b ≡ packed v
+  packing_all l zero =
+      let whole : k + (8 - k) ≡ 8 = omega arith in
+      s ∙ sym (bits_zeros v k (8 - k) (λ j p q. zero j p)) ∙ ap (bits_value v) whole ∙ packed_bits v
 
 cond_small : (t : Bool) (n : ℕ) → n ≤ 1 → cond t n 0 ≤ 1
 cond_small true n h = h

@@ -1,85 +1,138 @@
--- The search for a pixel byte above 1, row by row.
---     exceeds_first      what the code finds in a row, as the search of the definition
---     RowsClean          where the loop stands: the place of the row's first pixel, and no byte above 1 in a row passed
---     clean_more         a row more
---     clean_fits         the row at hand lies in the pixels
---     clean_found, clean_all     what the search finds: this row; none
+-- The search for a pixel byte above 1.
+--     place             where the first one is
+--     exceeds_first     what is noted of some bytes, as a search among them
+--     pieces_place      the first piece that has one is the piece of its place, where pieces of n bytes are cut
+--     rest_place        its place among the bytes from s on
+--     Banded, banded    the first band of eight rows that has one: all before it are clean
+--     row_missing, row_few, row_found      the row in that band: there is one, and it is the row of the place
 -- Assumes nothing.
-use Rattle.std.specs.List.{fold}
-use Rattle.std.specs.Prelude.{Option, None, Some, is_some, Ok, Err}
+use Rattle.std.proofs.lemmas.Option.{none-some}
+use Rattle.std.specs.Prelude.{Option, None, Some, is_some, option_map}
 use mathlib.Core.Bool.{Bool, true, false, ◌||◌, or-false, or_assoc}
 use mathlib.Core.List.{List, [], ◌∷◌}
+use mathlib.Core.Logic.{⊎_elim}
 use mathlib.Core.Path.{◌≡◌, refl, sym, ap, ◌∙◌}
-use Prim.Native.Nat.{ℕ, ◌+◌, ◌-◌, ◌*◌, ◌/◌, ◌≤◌, ◌<◌}
+use Prim.Native.Nat.{ℕ, zero, suc, ◌+◌, ◌-◌, ◌*◌, ◌/◌, ◌≤◌, ◌<◌}
+use native.Mathlib.Nat.{add-mul-div_right, div-le_self, div-mul-le_self, le-mul_of_pos_right, mul_assoc, mul_comm}
 use native.Mathlib.Omega.{arith}
-use borrow.Author.Count.{below_more}
 use lib.Dec.{ltb}
-use lib.ListN.{length, get_or, take, drop, length-take, length-drop}
+use lib.ListN.{length, take, drop, length-take, length-drop, get_or-eq_default}
 use lib.Seq.{get_or-take, get_or-drop}
-use Rattle.image.specs.Code.Rows.{too_large}
-use Rattle.verdict.specs.declared.Rule.TheVariants as why
-use Rattle.seq.proofs.Grid.{row_below, row_passes, first_rows}
-use Rattle.seq.proofs.Tab.{first_at, first_none, first_ext}
+use Rattle.image.specs.Code.Rows.{too_large, piece_too_large}
+use Rattle.image.proofs.HeaderOf.{rest_part}
+use Rattle.image.proofs.Pieces.{piece, noted}
+use Rattle.seq.proofs.Grid.{row_passes, first_rows}
+use Rattle.seq.proofs.Tab.{first_at, first_none, first_ext, first_found, first_nothing}
+use Rattle.seq.proofs.Tests.{lt_or_le}
 use Rattle.seq.specs.Tab.{first, first_or}
-use Rattle.verdict.specs.Rules.{refusal, refuse_at}
-use Rattle.verdict.proofs.Rules.{refuse_at_map}
 
--- a byte above 1 among those of a row, noted from the first to the last
-abbrev pub noted : Bool → List ℕ → Bool
-noted b row = fold (λ (above : Bool) (v : ℕ). above || ltb 1 v) b row
+abbrev pub place : List ℕ → Option ℕ
+place px = first (too_large px) (length px)
 
 some_or : (b : Bool) (o : Option ℕ) → is_some (first_or b o) ≡ (b || is_some o)
 some_or true o = refl
 some_or false None = refl
 some_or false (Some k) = refl
 
-pub exceeds_first : (b : Bool) (row : List ℕ) → noted b row ≡ (b || is_some (first (λ c. ltb 1 (get_or row c 0)) (length row)))
-exceeds_first b [] = sym (or-false b)
-exceeds_first b (v ∷ row) =
-    exceeds_first (b || ltb 1 v) row
-    ∙ or_assoc b (ltb 1 v) (is_some (first (λ c. ltb 1 (get_or row c 0)) (length row)))
-    ∙ ap (λ (t : Bool). b || t) (sym (some_or (ltb 1 v) (first (λ c. ltb 1 (get_or row c 0)) (length row))))
+search_nothing : (n : ℕ) → first (too_large []) n ≡ None
+search_nothing n = first_none (too_large []) n (λ k l. refl)
 
-pub record RowsClean (px : List ℕ) (w start row : ℕ) : Type 0 where
-  pub place : start ≡ row * w
-  pub clean : (k : ℕ) → k < row → row_passes (too_large px) w k ≡ false
+pub exceeds_first : (b : Bool) (px : List ℕ) (n : ℕ) → length px ≤ n → noted b px ≡ (b || is_some (first (too_large px) n))
+exceeds_first b [] n l = sym (ap (λ (o : Option ℕ). b || is_some o) (search_nothing n) ∙ or-false b)
+exceeds_first b (v ∷ px) zero l = absurd (omega (arith, l))
+exceeds_first b (v ∷ px) (suc n) l =
+    exceeds_first (b || ltb 1 v) px n (omega (arith, l))
+    ∙ or_assoc b (ltb 1 v) (is_some (first (too_large px) n))
+    ∙ ap (λ (t : Bool). b || t) (sym (some_or (ltb 1 v) (first (too_large px) n)))
 
--- the rule of the definition, over the rows
-by_rows : (px : List ℕ) (w h : ℕ) (o : Option ℕ) → first (row_passes (too_large px) w) h ≡ o
-    → refuse_at (first (too_large px) (w * h)) why.PixelValue (λ i. i / w) ≡ refuse_at o why.PixelValue (λ row. row)
-by_rows px w h o e =
-    refuse_at_map (first (too_large px) (w * h)) why.PixelValue (λ i. i / w) ∙ ap (λ (o : Option ℕ). refuse_at o why.PixelValue (λ row. row)) (first_rows (too_large px) w h ∙ e)
+-- past the last byte none is above 1
+place_past : (px : List ℕ) (n : ℕ) → length px ≤ n → first (too_large px) n ≡ place px
+place_past px n l = step (place px) refl
+  where
+    p : ℕ → Bool
+    p = too_large px
 
-module _ (px : List ℕ) (w : ℕ) {h : ℕ} (count : length px ≡ w * h) {start row : ℕ} (s : RowsClean px w start row) (l : row < h) where
-  pub clean_fits : start + w ≤ length px
-  clean_fits = omega (arith, row_below w l, count, s.place)
+    clean : place px ≡ None → (k : ℕ) → k < n → p k ≡ false
+    clean e k b = ⊎_elim (first_nothing p (length px) e k) (λ q. ap (ltb 1) (get_or-eq_default px 0 q)) (lt_or_le k (length px))
 
-  -- what the code found in the row at hand
-  module _ {b : Bool} (here : b ≡ noted false (take (start + w - start) (drop start px))) where
-    abbrev part : List ℕ
-    part = take (start + w - start) (drop start px)
+    step : (o : Option ℕ) → place px ≡ o → first p n ≡ o
+    step None e = first_none p n (clean e)
+    step (Some i) e = let f = first_found p (length px) i e in first_at p n i (omega (arith, f.below)) f.lowest f.passes
 
-    long : length part ≡ w
-    long = simp (length-take, length-drop) (omega (arith, clean_fits))
-
-    passes : row_passes (too_large px) w row ≡ b
-    passes =
-        sym (here
-        ∙ exceeds_first false part
-        ∙ ap (λ (n : ℕ). is_some (first (λ c. ltb 1 (get_or part c 0)) n)) long
+pub pieces_place : (px : List ℕ) (n : ℕ) → 0 < n → first (λ k. noted false (piece n px k)) (length px) ≡ piece_too_large px n
+pieces_place px n pos =
+    first_ext (λ k. noted false (piece n px k)) (row_passes (too_large px) n) (length px) (λ k b. passes k)
+    ∙ sym (first_rows (too_large px) n (length px))
+    ∙ ap (option_map (λ i. i / n)) (place_past px (n * length px) (omega (arith, le-mul_of_pos_right (length px) pos, mul_comm n (length px))))
+  where
+    passes : (k : ℕ) → noted false (piece n px k) ≡ row_passes (too_large px) n k
+    passes k =
+        exceeds_first false (piece n px k) n (simp length-take (omega arith))
         ∙ ap is_some
-        (first_ext (λ c. ltb 1 (get_or part c 0)) (λ c. too_large px (start + c)) w
-        (λ c k. ap (ltb 1) (get_or-take (start + w - start) (drop start px) c 0 (omega arith) ∙ get_or-drop start px c 0)))
-        ∙ ap (λ (i : ℕ). is_some (first (λ c. too_large px (i + c)) w)) s.place)
+        (first_ext (too_large (piece n px k)) (λ c. too_large px (k * n + c)) n
+        (λ c b. ap (ltb 1) (get_or-take n (drop (k * n) px) c 0 b ∙ get_or-drop (k * n) px c 0)))
 
-    pub clean_more : b ≡ false → RowsClean px w (start + w) (row + 1)
-    clean_more e = record {
-      place = omega (arith, s.place);
-      clean = below_more (λ k. row_passes (too_large px) w k ≡ false) row s.clean (passes ∙ e);
-    }
+-- the bytes from s on
+abbrev rest : List ℕ → ℕ → List ℕ
+rest px s = take (length px - s) (drop s px)
 
-    pub clean_found : b ≡ true → Err (refusal why.PixelValue row) ≡ refuse_at (first (too_large px) (w * h)) why.PixelValue (λ i. i / w)
-    clean_found e = sym (by_rows px w h (Some row) (first_at (row_passes (too_large px) w) h row l s.clean (passes ∙ e)))
+rest_place : (px : List ℕ) (s : ℕ) {i : ℕ} → place px ≡ Some i → s ≤ i → place (rest px s) ≡ Some (i - s)
+rest_place px s {i} e l =
+    let f = first_found (too_large px) (length px) i e in
+    let at : s + (i - s) ≡ i = omega arith in
+    rw (rest_part px s)
+    (first_at (too_large (drop s px)) (length (drop s px)) (i - s) (simp length-drop (omega (arith, f.below)))
+    (λ k b. same k ∙ f.lowest (s + k) (omega arith)) (same (i - s) ∙ rw at f.passes))
+  where
+    same : (k : ℕ) → too_large (drop s px) k ≡ too_large px (s + k)
+    same k = ap (ltb 1) (get_or-drop s px k 0)
 
-pub clean_all : (px : List ℕ) (w : ℕ) {h start row : ℕ} → RowsClean px w start row → row ≡ h → Ok tt ≡ refuse_at (first (too_large px) (w * h)) why.PixelValue (λ i. i / w)
-clean_all px w {h} s e = sym (by_rows px w h None (first_none (row_passes (too_large px) w) h (λ k b. s.clean k (omega arith))))
+-- the first band that has one: all before it are clean
+pub record Banded (px : List ℕ) (w band : ℕ) : Type 0 where
+  pub index : ℕ
+  pub at : place px ≡ Some index
+  pub clean : 8 * band * w ≤ index
+  pub inside : index < length px
+  pub few : 8 * band ≤ 8 * band * w
+
+some_same : {i j : ℕ} → Some i ≡ Some j → i ≡ j
+some_same e = cc
+
+pub banded : (px : List ℕ) (w : ℕ) {band : ℕ} → 0 < w → Some band ≡ piece_too_large px (8 * w) → Banded px w band
+banded px w {band} pos e = step (place px) refl e
+  where
+    step : (o : Option ℕ) → place px ≡ o → Some band ≡ option_map (λ i. i / (8 * w)) o → Banded px w band
+    step None at q = absurd (none-some band (sym q))
+    step (Some i) at q =
+        let same : band ≡ i / (8 * w) = some_same q in
+        record {
+          index = i;
+          at = at;
+          clean = rw same (below (i / (8 * w)) (div-mul-le_self i (8 * w)));
+          inside = (first_found (too_large px) (length px) i at).below;
+          few = le-mul_of_pos_right (8 * band) pos;
+        }
+      where
+        below : (k : ℕ) → k * (8 * w) ≤ i → 8 * k * w ≤ i
+        below k l = omega (arith, l, mul_assoc 8 k w, mul_assoc 8 w k, mul_comm w k)
+
+-- then its row
+module _ {px : List ℕ} {w band : ℕ} (pos : 0 < w) (b : Banded px w band) where
+  left : piece_too_large (rest px (8 * band * w)) w ≡ Some ((b.index - 8 * band * w) / w)
+  left = ap (option_map (λ i. i / w)) (rest_place px (8 * band * w) b.at b.clean)
+
+  pub row_missing : None ≡ piece_too_large (rest px (8 * band * w)) w → ⊥
+  row_missing e = none-some _ (e ∙ left)
+
+  module _ {row : ℕ} (e : Some row ≡ piece_too_large (rest px (8 * band * w)) w) where
+    row_is : 8 * band + row ≡ b.index / w
+    row_is =
+        let here : row ≡ (b.index - 8 * band * w) / w = some_same (e ∙ left) in
+        let whole : b.index - 8 * band * w + 8 * band * w ≡ b.index = omega (arith, b.clean) in
+        omega (arith, here, ap (λ (i : ℕ). i / w) whole, add-mul-div_right (b.index - 8 * band * w) (8 * band) pos)
+
+    pub row_few : 8 * band + row ≤ b.index
+    row_few = rw row_is (div-le_self b.index w)
+
+    pub row_found : Some (8 * band + row) ≡ piece_too_large px w
+    row_found = ap Some row_is ∙ sym (ap (option_map (λ i. i / w)) b.at)

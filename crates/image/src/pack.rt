@@ -6,7 +6,7 @@ ghost use Rattle.image.specs.Size.{row_bytes};
 ghost use Rattle.seq.specs.Tab.{tab};
 
 use crate::size;
-use crate::size::{BYTE_PIXELS, Size};
+use crate::size::{BYTE_PIXELS, LEFTMOST_BIT, Size};
 
 // Bits 0, 9, 18 to 63: what moves bit 8 * k to bit 63 - k.
 const TO_HIGHEST_BYTE: u64 = 0x8040_2010_0804_0201;
@@ -55,8 +55,8 @@ fn pack_byte(pixels: &[u8]) -> u8
         return pack_eight(*eight);
     }
     let mut byte: u8 = 0;
-    for k in 0..BYTE_PIXELS {
-        byte = 2 * byte + pixels.get(k).copied().unwrap_or(0);
+    for (k, pixel) in pixels.iter().enumerate() {
+        byte += *pixel << (LEFTMOST_BIT - k);
     }
     byte
 }

@@ -15,6 +15,8 @@ pub const MAX_PIXELS: usize = MAX_SIDE * MAX_SIDE;
 
 pub(crate) const BYTE_PIXELS: usize = 8;
 
+pub(crate) const LEFTMOST_BIT: usize = BYTE_PIXELS - 1;
+
 // The most bytes of a raster.
 pub(crate) const MAX_RASTER: usize = MAX_PIXELS / BYTE_PIXELS;
 

@@ -7,10 +7,8 @@ ghost use Rattle.seq.specs.Tab.{tab};
 ghost use Rattle.verdict.specs.Writer.{output_of};
 
 use crate::size;
-use crate::size::{BYTE_PIXELS, Size};
+use crate::size::{BYTE_PIXELS, LEFTMOST_BIT, Size};
 use verdict::{Refusal, Rule};
-
-const LEFTMOST_BIT: usize = 7;
 
 // The image in the front of an area, or 13.
 pub(crate) fn fill(raster: &[u8], size: Size, area: &mut [u8]) -> Result<Size, Refusal>

@@ -1,10 +1,10 @@
 -- `image::pack::pack_byte` meets its contract. Assumes nothing.
-use mathlib.Core.Path.{◌≡◌, refl}
-use Prim.Native.Nat.{ℕ}
+use mathlib.Core.Path.{refl}
+use Prim.Native.Nat.{ℕ, ◌<◌}
 use native.Mathlib.Omega.{arith}
-use lib.ListN.{get_or}
+use lib.ListN.{length, get_or, get_or-eq_default}
 use Rattle.std.proofs.Common.{rules}
-use Rattle.image.proofs.Packed.{packing_more, packing_all, packing_small}
+use Rattle.image.proofs.Packed.{packing_more, packing_small, packing_all}
 use Rattle.seq.proofs.HighFirst.{bits_value}
 use Rattle.image.proofs.pack.pack_byte.Goals as goal
 
@@ -12,18 +12,20 @@ pub loop-k-init : goal.loop-k-init
 unfolding bits_value
 loop-k-init c = refl
 
-pub overflow_mul-byte : goal.overflow_mul-byte
-overflow_mul-byte c = omega (arith, packing_small _ c.loop-k.invariant (omega arith) c.requires.small)
-
 pub overflow_add-byte : goal.overflow_add-byte
 overflow_add-byte c =
-    let here : c.unwrap_or.result ≡ get_or c.args.pixels.now c.loop-k.k 0 = search rules in
-    omega (arith, packing_small _ c.loop-k.invariant (omega arith) c.requires.small, here, c.requires.small c.loop-k.k)
+    let few : length c.args.pixels.now < 8 = search rules in
+    let v : ℕ → ℕ = λ k. get_or c.args.pixels.now k 0 in
+    let more = packing_more v c.requires.small c.loop-k.invariant refl (omega arith) in
+    omega (arith, packing_small v c.requires.small more (omega arith))
 
 pub loop-k-preserved : goal.loop-k-preserved
 loop-k-preserved c =
-    let here : c.unwrap_or.result ≡ get_or c.args.pixels.now c.loop-k.k 0 = search rules in
-    packing_more (λ (k : ℕ). get_or c.args.pixels.now k 0) c.loop-k.invariant here
+    let few : length c.args.pixels.now < 8 = search rules in
+    packing_more (λ (k : ℕ). get_or c.args.pixels.now k 0) c.requires.small c.loop-k.invariant refl (omega arith)
 
 pub returns : goal.returns
-returns c = packing_all (λ (k : ℕ). get_or c.args.pixels.now k 0) c.loop-k.invariant (omega arith)
+returns c =
+    let few : length c.args.pixels.now < 8 = search rules in
+    packing_all (λ (k : ℕ). get_or c.args.pixels.now k 0) c.requires.small c.loop-k.invariant (omega arith)
+    (λ j p. get_or-eq_default c.args.pixels.now 0 (omega arith))
