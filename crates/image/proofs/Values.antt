@@ -3,8 +3,8 @@
 --     exceeds_first     what is noted of some bytes, as a search among them
 --     pieces_place      the first piece that has one is the piece of its place, where pieces of n bytes are cut
 --     rest_place        its place among the bytes from s on
---     Banded, banded    the first band of eight rows that has one: all before it are clean
---     row_missing, row_few, row_found      the row in that band: there is one, and it is the row of the place
+--     band_fits         the first band of eight rows that has one lies in the bytes
+--     row_missing, row_fits, row_found     its row in that band: there is one, it lies in the bytes, and it is the row of the place
 -- Assumes nothing.
 use Rattle.std.proofs.lemmas.Option.{none-some}
 use Rattle.std.specs.Prelude.{Option, None, Some, is_some, option_map}
@@ -34,11 +34,8 @@ some_or true o = refl
 some_or false None = refl
 some_or false (Some k) = refl
 
-search_nothing : (n : ℕ) → first (too_large []) n ≡ None
-search_nothing n = first_none (too_large []) n (λ k l. refl)
-
 pub exceeds_first : (b : Bool) (px : List ℕ) (n : ℕ) → length px ≤ n → noted b px ≡ (b || is_some (first (too_large px) n))
-exceeds_first b [] n l = sym (ap (λ (o : Option ℕ). b || is_some o) (search_nothing n) ∙ or-false b)
+exceeds_first b [] n l = sym (ap (λ (o : Option ℕ). b || is_some o) (first_none (too_large []) n (λ k l. refl)) ∙ or-false b)
 exceeds_first b (v ∷ px) zero l = absurd (omega (arith, l))
 exceeds_first b (v ∷ px) (suc n) l =
     exceeds_first (b || ltb 1 v) px n (omega (arith, l))
@@ -87,20 +84,22 @@ rest_place px s {i} e l =
     same : (k : ℕ) → too_large (drop s px) k ≡ too_large px (s + k)
     same k = ap (ltb 1) (get_or-drop s px k 0)
 
--- the first band that has one: all before it are clean
-pub record Banded (px : List ℕ) (w band : ℕ) : Type 0 where
+some_same : {i j : ℕ} → Some i ≡ Some j → i ≡ j
+some_same e = cc
+
+-- the place, by the first band of eight rows that has one: all before it are clean
+record Banded (px : List ℕ) (w band : ℕ) : Type 0 where
   pub index : ℕ
   pub at : place px ≡ Some index
   pub clean : 8 * band * w ≤ index
   pub inside : index < length px
-  pub few : 8 * band ≤ 8 * band * w
 
-some_same : {i j : ℕ} → Some i ≡ Some j → i ≡ j
-some_same e = cc
-
-pub banded : (px : List ℕ) (w : ℕ) {band : ℕ} → 0 < w → Some band ≡ piece_too_large px (8 * w) → Banded px w band
-banded px w {band} pos e = step (place px) refl e
+banded : (px : List ℕ) (w : ℕ) {band : ℕ} → Some band ≡ piece_too_large px (8 * w) → Banded px w band
+banded px w {band} e = step (place px) refl e
   where
+    below : (i k : ℕ) → k * (8 * w) ≤ i → 8 * k * w ≤ i
+    below i k l = omega (arith, l, mul_assoc 8 k w, mul_assoc 8 w k, mul_comm w k)
+
     step : (o : Option ℕ) → place px ≡ o → Some band ≡ option_map (λ i. i / (8 * w)) o → Banded px w band
     step None at q = absurd (none-some band (sym q))
     step (Some i) at q =
@@ -108,31 +107,33 @@ banded px w {band} pos e = step (place px) refl e
         record {
           index = i;
           at = at;
-          clean = rw same (below (i / (8 * w)) (div-mul-le_self i (8 * w)));
+          clean = rw same (below i (i / (8 * w)) (div-mul-le_self i (8 * w)));
           inside = (first_found (too_large px) (length px) i at).below;
-          few = le-mul_of_pos_right (8 * band) pos;
         }
-      where
-        below : (k : ℕ) → k * (8 * w) ≤ i → 8 * k * w ≤ i
-        below k l = omega (arith, l, mul_assoc 8 k w, mul_assoc 8 w k, mul_comm w k)
 
--- then its row
-module _ {px : List ℕ} {w band : ℕ} (pos : 0 < w) (b : Banded px w band) where
+-- that band in the bytes, then its row
+module _ (px : List ℕ) (w : ℕ) {band : ℕ} (pos : 0 < w) (e : Some band ≡ piece_too_large px (8 * w)) where
+  b : Banded px w band
+  b = banded px w e
+
+  pub band_fits : (8 * band ≤ length px) × (8 * band * w ≤ length px)
+  band_fits = (omega (arith, b.clean, b.inside, le-mul_of_pos_right (8 * band) pos), omega (arith, b.clean, b.inside))
+
   left : piece_too_large (rest px (8 * band * w)) w ≡ Some ((b.index - 8 * band * w) / w)
   left = ap (option_map (λ i. i / w)) (rest_place px (8 * band * w) b.at b.clean)
 
   pub row_missing : None ≡ piece_too_large (rest px (8 * band * w)) w → ⊥
-  row_missing e = none-some _ (e ∙ left)
+  row_missing n = none-some _ (n ∙ left)
 
-  module _ {row : ℕ} (e : Some row ≡ piece_too_large (rest px (8 * band * w)) w) where
+  module _ {row : ℕ} (r : Some row ≡ piece_too_large (rest px (8 * band * w)) w) where
     row_is : 8 * band + row ≡ b.index / w
     row_is =
-        let here : row ≡ (b.index - 8 * band * w) / w = some_same (e ∙ left) in
+        let here : row ≡ (b.index - 8 * band * w) / w = some_same (r ∙ left) in
         let whole : b.index - 8 * band * w + 8 * band * w ≡ b.index = omega (arith, b.clean) in
         omega (arith, here, ap (λ (i : ℕ). i / w) whole, add-mul-div_right (b.index - 8 * band * w) (8 * band) pos)
 
-    pub row_few : 8 * band + row ≤ b.index
-    row_few = rw row_is (div-le_self b.index w)
+    pub row_fits : 8 * band + row ≤ length px
+    row_fits = rw row_is (omega (arith, div-le_self b.index w, b.inside))
 
     pub row_found : Some (8 * band + row) ≡ piece_too_large px w
     row_found = ap Some row_is ∙ sym (ap (option_map (λ i. i / w)) b.at)
